@@ -1,0 +1,17 @@
+-- Cases that most laws go by: of a Bool with its equation, of two numbers by their order or equality. Assumes nothing.
+use Prim.Native.Nat.{ℕ, _<_, _≤_}
+use native.Mathlib.Omega.{arith}
+use native.Mathlib.Decide.{decLt, ℕ-discrete}
+use mathlib.Core.Logic.{_⊎_, inl, inr}
+use mathlib.Core.Path.{_≡_, refl}
+use mathlib.Core.Bool.{Bool, true, false}
+
+pub split : {P : Type 0} (b : Bool) → (b ≡ true → P) → (b ≡ false → P) → P
+split true yes-case no-case = yes-case refl
+split false yes-case no-case = no-case refl
+
+pub split-lt : (a b : ℕ) → (a < b) ⊎ (b ≤ a)
+split-lt a b = elim (decLt a b) [ yes p ↦ inl p | no q ↦ inr (omega arith) ]
+
+pub split-eq : (a b : ℕ) → (a ≡ b) ⊎ (a ≡ b → ⊥)
+split-eq a b = elim (ℕ-discrete a b) [ yes p ↦ inl p | no q ↦ inr q ]
