@@ -1,2 +1,6 @@
-pub mod Number
+pub mod Outcome
 pub mod Lent
+pub mod Number
+pub mod Word
+pub mod Kind
+pub mod NumberWire

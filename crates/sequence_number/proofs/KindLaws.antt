@@ -1,0 +1,93 @@
+-- Laws of `specs/Kind.antt`, and what every kind of number has in common: `Lawful`. Assumes nothing.
+use Prim.Native.Nat.{ℕ, suc, _+_, _*_, _-_, _/_, _%_, _^_, _<_}
+use mathlib.Core.Path.{_≡_, ap, _∙_, sym}
+use mathlib.Core.List.{List, _++_, append-assoc}
+use mathlib.Core.Logic.{⊎-elim}
+use native.Mathlib.Omega.{arith}
+use lib.ListN.{length, length-append}
+use lib.Seq.{sets}
+use lib.IntN.{ℤ, pos, negsuc, _+ℤ_, _*ℤ_}
+use mir.Syntax.{w32, w64}
+use mir.Val.{Fits, SFits, ofZ, toZ}
+use mir.Facts.{toZ-ofZ, toZ-pos, toZ-neg, fits-ofZ}
+use borrow.Author.Tests.{lt-ltb}
+use Rattle.sequence_number.specs.Word.{wordAt, wordBytes}
+use Rattle.sequence_number.specs.Kind.{Kind, sequence, fragment, sequenceAt, sequenceBytes}
+use Rattle.sequence_number.specs.declared.ByteOrder.{ByteOrder}
+use Rattle.sequence_number.proofs.Split.{split-lt}
+use Rattle.sequence_number.proofs.RunLaws.{sets-sets}
+use Rattle.sequence_number.proofs.WordLaws.{length-bytes, word-bytes, word-append}
+
+-- high * 2^32 + low, with the high word signed, is the 64 bits read as signed
+halves-pos : (hi lo : ℕ) → hi < 2 ^ 31 → lo < 2 ^ 32 → toZ w64 (hi * 4294967296 + lo) ≡ toZ w32 hi *ℤ pos (2 ^ 32) +ℤ pos lo
+halves-pos hi lo h l =
+    toZ-pos w64 {n = hi * 4294967296 + lo} (omega arith) ∙ ap (λ (z : ℤ). z *ℤ pos (2 ^ 32) +ℤ pos lo) (sym (toZ-pos w32 {n = hi} (omega arith)))
+
+halves-neg : (k lo : ℕ) → lo < 2 ^ 32 → negsuc ((k * 4294967296 + 4294967295) - lo) ≡ negsuc k *ℤ pos (2 ^ 32) +ℤ pos lo
+halves-neg k lo l =
+    let m : ℕ = k * 4294967296 + 4294967295 in
+    let e : suc k * 4294967296 ≡ suc m = omega arith in
+    let f : m - lo ≡ suc m - suc lo = omega arith in
+    rw (e, lt-ltb lo (suc m) (omega arith)) (ap negsuc f)
+
+pub halves : (hi lo : ℕ) → hi < 2 ^ 32 → lo < 2 ^ 32 → toZ w64 (hi * 4294967296 + lo) ≡ toZ w32 hi *ℤ pos (2 ^ 32) +ℤ pos lo
+halves hi lo h l =
+    ⊎-elim (λ p. halves-pos hi lo p l)
+    (λ p.
+    let k : ℕ = 4294967295 - hi in
+    let m : ℕ = (k * 4294967296 + 4294967295) - lo in
+    let e : hi * 4294967296 + lo ≡ 2 ^ 64 - suc m = omega arith in
+    let f : hi ≡ 2 ^ 32 - suc k = omega arith in
+    ap (toZ w64) e
+    ∙ toZ-neg w64 m (omega arith)
+    ∙ halves-neg k lo l
+    ∙ ap (λ (z : ℤ). z *ℤ pos (2 ^ 32) +ℤ pos lo) (sym (ap (toZ w32) f ∙ toZ-neg w32 k (omega arith))))
+    (split-lt hi (2 ^ 31))
+
+-- what reading a sequence number comes to: the two words, and the number of their bits
+pub sequence-read : (o : ByteOrder) (s : List ℕ) (at hi lo : ℕ) (r : ℤ) → SFits w64 r → hi < 2 ^ 32 → lo < 2 ^ 32 → hi ≡ wordAt o s at
+    → lo ≡ wordAt o s (at + 4) → r ≡ toZ w64 (hi * 4294967296 + lo) → toZ w64 (ofZ w64 r) ≡ sequenceAt o s at
+sequence-read o s at hi lo r f h l p q e = toZ-ofZ {w = w64} {z = r} f ∙ e ∙ halves hi lo h l ∙ (λ i. toZ w32 (p i) *ℤ pos (2 ^ 32) +ℤ pos (q i))
+
+-- what writing one comes to: its high word, and then its low word
+pub sequence-written : (o : ByteOrder) (l l′ l″ : List ℕ) (at u : ℕ) (n : ℤ) → u ≡ ofZ w64 n → l′ ≡ sets l at (wordBytes o (u / 4294967296))
+    → l″ ≡ sets l′ (at + 4) (wordBytes o (u % 4294967296)) → l″ ≡ sets l at (sequenceBytes o n)
+sequence-written o l l′ l″ at u n p q r =
+    sets-sets l l′ l″ (wordBytes o (u / 4294967296)) (wordBytes o (u % 4294967296)) at (at + 4)
+    (ap (λ (k : ℕ). at + k) (sym (length-bytes o (u / 4294967296)))) q r
+    ∙ ap (λ (v : ℕ). sets l at (wordBytes o (v / 4294967296) ++ wordBytes o (v % 4294967296))) p
+
+-- what every kind of number has in common. Valid: a number of the type
+pub record Lawful (k : Kind) : Type 1 where
+  pub Valid : k .Number → Type 0
+  pub length-number : (o : ByteOrder) (n : k .Number) → length (k .numberBytes o n) ≡ k .size
+  pub number-back : (o : ByteOrder) (n : k .Number) (rest : List ℕ) → Valid n → k .numberAt o (k .numberBytes o n ++ rest) 0 ≡ n
+
+length-sequence : (o : ByteOrder) (n : ℤ) → length (sequenceBytes o n) ≡ 8
+length-sequence o n =
+    let a = length-bytes o (ofZ w64 n / 2 ^ 32) in
+    let b = length-bytes o (ofZ w64 n % 2 ^ 32) in
+    omega (arith, length-append (wordBytes o (ofZ w64 n / 2 ^ 32)) (wordBytes o (ofZ w64 n % 2 ^ 32)))
+
+-- a sequence number that was written is read back
+sequence-back : (o : ByteOrder) (n : ℤ) (rest : List ℕ) → SFits w64 n → sequenceAt o (sequenceBytes o n ++ rest) 0 ≡ n
+sequence-back o n rest f =
+    let u : ℕ = ofZ w64 n in
+    let hi : List ℕ = wordBytes o (u / 4294967296) in
+    let lo : List ℕ = wordBytes o (u % 4294967296) in
+    let b : u < 2 ^ 64 = fits-ofZ {w = w64} {z = n} f .fits in
+    let whole : u / 4294967296 * 4294967296 + u % 4294967296 ≡ u = omega arith in
+    let at4 : 4 ≡ length hi + 0 = omega (arith, length-bytes o (u / 4294967296)) in
+    let first : wordAt o ((hi ++ lo) ++ rest) 0 ≡ u / 4294967296 = rw append-assoc (word-bytes o (u / 4294967296) (lo ++ rest) (omega arith)) in
+    let second : wordAt o ((hi ++ lo) ++ rest) 4 ≡ u % 4294967296 =
+    rw append-assoc (word-append hi (lo ++ rest) o 4 0 at4 ∙ word-bytes o (u % 4294967296) rest (omega arith)) in
+    (λ i. toZ w32 (first i) *ℤ pos (2 ^ 32) +ℤ pos (second i))
+    ∙ sym (halves (u / 4294967296) (u % 4294967296) (omega arith) (omega arith))
+    ∙ ap (toZ w64) whole
+    ∙ toZ-ofZ {w = w64} {z = n} f
+
+pub sequence-lawful : Lawful sequence
+sequence-lawful = record { Valid = SFits w64; length-number = length-sequence; number-back = sequence-back }
+
+pub fragment-lawful : Lawful fragment
+fragment-lawful = record { Valid = Fits w32; length-number = length-bytes; number-back = λ o n rest f. word-bytes o n rest (f .fits) }
