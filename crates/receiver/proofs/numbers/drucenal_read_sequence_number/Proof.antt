@@ -32,7 +32,7 @@ returns c =
 returns-2 : tie.Need-returns-2
 returns-2 c =
     let a = c .before .before .before .before .before .before .args in
-    rw (toZ-ofZ (record { sfits = c .known-told2 .given .1 .0 }))
+    rw (toZ-ofZ (record { sfits = c .known-told2 .given .0 .1 }))
     (reads-done sequence (c .before .before .before .before .order-of .ensures) (a .bytes .now) (a .number .now) (c .before .before .before .read-sequence-number .ensures) _ (ap readSequence (c .before .x .given .1)))
 
 pub drucenal-read-sequence-number-spec : {M : Type 1} → statement M
