@@ -5,3 +5,6 @@ pub mod RunLaws
 pub mod WordLaws
 pub mod KindLaws
 pub mod NumberWireLaws
+pub mod BitLaws
+pub mod PositionLaws
+pub mod SetWireLaws

@@ -48,3 +48,11 @@ number-is (pos n) k e =
 pub number-passed : (n : ℤ) (k : ℕ) → SFits w64 n → k ≡ numberOf (toZ w64 (ofZ w64 n))
     → ((k ≡ 0) × (isNumber n ≡ false)) ⊎ ((0 < k) × (k < top) × (isNumber n ≡ true) × (k ≡ natOf n))
 number-passed n k f e = number-is n k (rw (toZ-ofZ f) at e)
+
+pub nat-neg : (n : ℤ) → ltZ n (pos 0) ≡ true → 0 ≡ natOf n
+nat-neg (pos n) h = omega (arith, ltb-true n 0 h)
+nat-neg (negsuc n) h = refl
+
+pub nat-good : (n : ℤ) → SFits w64 n → ltZ n (pos 0) ≡ false → (natAbs n ≡ natOf n) × T (nonNeg n) × Fits w64 (natAbs n)
+nat-good (pos n) f h = (refl, tt, record { fits = omega (arith, f .sfits) })
+nat-good (negsuc n) f h = let z : _≡_ {A = ℕ} 0 1 = cc in absurd (omega arith)

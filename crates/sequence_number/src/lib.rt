@@ -1,6 +1,10 @@
 // Numbers on the wire and number sets: rustdds 0.15.1, src/structure/sequence_number.rs.
+mod bitmap;
+pub mod make;
 pub mod number;
+pub mod set;
 mod signed;
+pub mod walk;
 pub mod wire;
 mod word;
 
