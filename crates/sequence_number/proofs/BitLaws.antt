@@ -1,16 +1,15 @@
 -- Laws of the bits of `specs/Bitmap.antt`: what an "or" sets, and which bits are set after that. Assumes nothing.
-use Prim.Native.Nat.{ℕ, zero, suc, one, _+_, _*_, _/_, _%_, _^_, _-_, _<_, _≤_, max}
-use mathlib.Core.Path.{_≡_, refl, ap, _∙_, sym, subst}
-use mathlib.Core.Logic.{⊎-elim}
-use mathlib.Core.Bool.{Bool, true, false, _||_, or-false, or-true}
-use mathlib.Core.List.{List, [], _∷_, _++_}
+use Prim.Native.Nat.{ℕ, suc, one, _+_, _*_, _/_, _%_, _^_, _-_, _<_, _≤_, max}
+use mathlib.Core.Path.{_≡_, ap, _∙_, sym}
+use mathlib.Core.Bool.{Bool, false, _||_, or-false, or-true}
+use mathlib.Core.List.{List}
 use native.Mathlib.Omega.{arith}
 use native.Mathlib.Decide.{decLt, ℕ-discrete}
 use native.Mathlib.Nat.{zero-div, one-mul, div-eq-of-lt}
 use lib.ListN.{length, getD, set, List·getD-eq-default}
 use lib.Seq.{getD-set-same, getD-set-other}
 use lib.Dec.{eqb}
-use lib.Pow.{shl-exact, pow-add, shl-shr, pow-lt, pow-pos}
+use lib.Pow.{shl-exact, pow-add, shl-shr, pow-lt}
 use lib.Bits.{bitAnd, bitOr, or-shr, or-step, or-add-and, and-high}
 use borrow.Author.Tests.{eq-eqb, ne-eqb}
 use Rattle.sequence_number.specs.Bitmap.{hasBit, withBit, setBit}

@@ -8,3 +8,5 @@ pub mod NumberWireLaws
 pub mod BitLaws
 pub mod PositionLaws
 pub mod SetWireLaws
+pub mod WalkLaws
+pub mod FitLaws

@@ -14,7 +14,7 @@ use Rattle.sequence_number.specs.Word.{wordAt, wordBytes}
 use Rattle.sequence_number.specs.Kind.{Kind}
 use Rattle.sequence_number.specs.NumberWire.{wrote}
 use Rattle.sequence_number.specs.NumberSet.{NumberSet, noWords, wordCount, bytesOf}
-use Rattle.sequence_number.specs.SetWire.{bitCount, readCount, wordsFrom, readWords, Taken, takenSet, readSet, wordsBytes, bitsBytes, setBytes, writeSet, WritesSet, measureSet}
+use Rattle.sequence_number.specs.SetWire.{bitCount, readCount, wordsFrom, readWords, Taken, takenSet, readSet, wordsBytes, bitsBytes, setBytes, writeSet, WritesSet}
 use Rattle.sequence_number.specs.declared.ByteOrder.{ByteOrder}
 use Rattle.sequence_number.specs.declared.set.BitCount.{BitCount}
 use Rattle.sequence_number.specs.declared.set.BitCount.the-variants as bit-count

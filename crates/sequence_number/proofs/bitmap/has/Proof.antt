@@ -3,34 +3,25 @@ use Rattle.sequence_number.proofs.BitLaws.{has-past}
 use borrow.Author.Needs.{needs}
 use Rattle.sequence_number.proofs.bitmap.has.Statement.{statement}
 use Rattle.sequence_number.proofs.bitmap.has.Tie as tie
-use Rattle.sequence_number.proofs.bitmap.has.Reads as reads
-use Rattle.sequence_number.proofs.bitmap.has.Lts as lts
 
--- src/bitmap.rt:11:17
 cast-k : tie.Need-cast-k
 cast-k c = search needs
 
--- src/bitmap.rt:12:10
 mul-result : tie.Need-mul-result
 mul-result c = search needs
 
--- src/bitmap.rt:12:10
 array-read-result : tie.Need-array-read-result
 array-read-result c = search needs
 
--- src/bitmap.rt:12:23
 sub-result : tie.Need-sub-result
 sub-result c = search needs
 
--- src/bitmap.rt:12:10
 shr-result : tie.Need-shr-result
 shr-result c = search needs
 
--- src/bitmap.rt:7:1
 returns : tie.Need-returns
 returns c = search needs
 
--- src/bitmap.rt:7:1
 returns-2 : tie.Need-returns-2
 returns-2 c = sym (has-past (c .before .args .t1) (c .before .args .i) (search needs) (c .if1 .left))
 

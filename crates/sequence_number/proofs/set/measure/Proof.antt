@@ -2,34 +2,25 @@ use borrow.Author.Tests.{lt-ltb, le-ltb}
 use borrow.Author.Needs.{needs}
 use Rattle.sequence_number.proofs.set.measure.Statement.{statement}
 use Rattle.sequence_number.proofs.set.measure.Tie as tie
-use Rattle.sequence_number.proofs.set.measure.Reads as reads
-use Rattle.sequence_number.proofs.set.measure.Lts as lts
 
--- src/set.rt:149:9
 returns : tie.Need-returns
 returns c = rw (lt-ltb 256 _ (c .if1 .taken))
 
--- src/set.rt:151:21
 add-t4 : tie.Need-add-t4
 add-t4 c = search needs
 
--- src/set.rt:151:39
 add-t5 : tie.Need-add-t5
 add-t5 c = search needs
 
--- src/set.rt:151:37
 cast-t7 : tie.Need-cast-t7
 cast-t7 c = search needs
 
--- src/set.rt:151:32
 mul-t8 : tie.Need-mul-t8
 mul-t8 c = search needs
 
--- src/set.rt:151:21
 add-t9 : tie.Need-add-t9
 add-t9 c = search needs
 
--- src/set.rt:144:1
 returns-2 : tie.Need-returns-2
 returns-2 c = rw (le-ltb 256 _ (c .if1 .left))
 

@@ -8,9 +8,6 @@ use Prim.Native.Nat.{_≤_, _-_}
 use borrow.Author.Needs.{needs}
 use Rattle.sequence_number.proofs.set.read_words.Statement.{statement}
 use Rattle.sequence_number.proofs.set.read_words.Tie as tie
-use Rattle.sequence_number.proofs.set.read_words.Reads as reads
-use Rattle.sequence_number.proofs.set.read_words.Lts as lts
-use Rattle.sequence_number.proofs.word.read_word.Reads as read-word-reads
 
 abbrev Inv-loop : tie.InvT-loop
 Inv-loop o s at n words₀ i₀ words i = (i ≤ n) × (words ≡ sets noWords 0 (wordsFrom o s at i))
@@ -18,45 +15,35 @@ Inv-loop o s at n words₀ i₀ words i = (i ≤ n) × (words ≡ sets noWords 0
 abbrev μ-loop : tie.MeasureT-loop
 μ-loop o s at n words₀ i₀ words i = n - i
 
--- src/set.rt:98:5
 loop-holds : tie.Need-loop-holds Inv-loop μ-loop
 loop-holds c = (search needs, refl)
 
--- src/set.rt:99:41
 mul-read-word : tie.Need-mul-read-word Inv-loop μ-loop
 mul-read-word c = search needs
 
--- src/set.rt:99:36
 add-read-word : tie.Need-add-read-word Inv-loop μ-loop
 add-read-word c = search needs
 
--- src/set.rt:99:20
 read-word-requires : tie.Need-read-word-requires Inv-loop μ-loop
 read-word-requires c κs = search needs
 
--- src/set.rt:99:9
 mul-words : tie.Need-mul-words Inv-loop μ-loop
 mul-words c = search needs
 
--- src/set.rt:99:9
 array-write-words : tie.Need-array-write-words Inv-loop μ-loop
 array-write-words c = search needs
 
--- src/set.rt:100:9
 add-i : tie.Need-add-i Inv-loop μ-loop
 add-i c = search needs
 
--- src/set.rt:98:5
 loop-less : tie.Need-loop-less Inv-loop μ-loop
 loop-less c = search needs
 
--- src/set.rt:98:5
 loop-again : tie.Need-loop-again Inv-loop μ-loop
 loop-again c =
     let a = c .before .before .before .before .args in
     (omega arith, words-more (a .o) (a .s .now) (a .at) _ _ _ _ (c .before .before .loop .inv .1) (c .read-word .ensures))
 
--- src/set.rt:91:1
 returns : tie.Need-returns Inv-loop μ-loop
 returns c =
     let a = c .before .before .before .args in

@@ -2,36 +2,25 @@ use Rattle.sequence_number.proofs.SetWireLaws.{bits-written}
 use borrow.Author.Needs.{needs}
 use Rattle.sequence_number.proofs.set.write_bits.Statement.{statement}
 use Rattle.sequence_number.proofs.set.write_bits.Tie as tie
-use Rattle.sequence_number.proofs.set.write_bits.Reads as reads
-use Rattle.sequence_number.proofs.set.write_bits.Lts as lts
-use Rattle.sequence_number.proofs.set.write_words.Reads as write-words-reads
-use Rattle.sequence_number.proofs.word.write_word.Reads as write-word-reads
 
--- src/set.rt:124:5
 write-word-requires : tie.Need-write-word-requires
 write-word-requires c κs = search needs
 
--- src/set.rt:125:29
 add-write-words : tie.Need-add-write-words
 add-write-words c = search needs
 
--- src/set.rt:125:27
 cast-write-words : tie.Need-cast-write-words
 cast-write-words c = search needs
 
--- src/set.rt:125:62
 add-write-words-2 : tie.Need-add-write-words-2
 add-write-words-2 c = search needs
 
--- src/set.rt:125:5
 write-words-requires : tie.Need-write-words-requires
 write-words-requires c κs = search needs
 
--- src/set.rt:119:1
 same-length : tie.Need-same-length
 same-length c = search needs
 
--- src/set.rt:119:1
 returns : tie.Need-returns
 returns c =
     let a = c .before .before .before .before .before .before .before .before .before .args in

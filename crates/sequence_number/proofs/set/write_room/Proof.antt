@@ -2,38 +2,28 @@ use borrow.Author.Tests.{lt-ltb, le-ltb}
 use borrow.Author.Needs.{needs}
 use Rattle.sequence_number.proofs.set.write_room.Statement.{statement}
 use Rattle.sequence_number.proofs.set.write_room.Tie as tie
-use Rattle.sequence_number.proofs.set.write_room.Reads as reads
-use Rattle.sequence_number.proofs.set.write_room.Lts as lts
 
--- src/set.rt:134:9
 returns : tie.Need-returns
 returns c = rw (lt-ltb 256 _ (c .if1 .taken))
 
--- src/set.rt:136:13
 add-n : tie.Need-add-n
 add-n c = search needs
 
--- src/set.rt:136:31
 add-n-2 : tie.Need-add-n-2
 add-n-2 c = search needs
 
--- src/set.rt:136:29
 cast-n : tie.Need-cast-n
 cast-n c = search needs
 
--- src/set.rt:136:24
 mul-n : tie.Need-mul-n
 mul-n c = search needs
 
--- src/set.rt:136:13
 add-n-3 : tie.Need-add-n-3
 add-n-3 c = search needs
 
--- src/set.rt:138:9
 returns-2 : tie.Need-returns-2
 returns-2 c = rw (le-ltb 256 _ (c .before .if1 .left), lt-ltb _ _ (c .if2 .taken))
 
--- src/set.rt:129:1
 returns-3 : tie.Need-returns-3
 returns-3 c = rw (le-ltb 256 _ (c .before .if1 .left), le-ltb _ _ (c .if2 .left))
 

@@ -8,9 +8,6 @@ use Prim.Native.Nat.{ℕ, _≤_, _-_}
 use borrow.Author.Needs.{needs}
 use Rattle.sequence_number.proofs.set.write_words.Statement.{statement}
 use Rattle.sequence_number.proofs.set.write_words.Tie as tie
-use Rattle.sequence_number.proofs.set.write_words.Reads as reads
-use Rattle.sequence_number.proofs.set.write_words.Lts as lts
-use Rattle.sequence_number.proofs.word.write_word.Reads as write-word-reads
 
 abbrev Inv-loop : tie.InvT-loop
 Inv-loop o n out₀ at words i₀ out i = (i ≤ n) × (length out ≡ length out₀) × (out ≡ sets out₀ at (wordsBytes o words i))
@@ -18,39 +15,30 @@ Inv-loop o n out₀ at words i₀ out i = (i ≤ n) × (length out ≡ length ou
 abbrev μ-loop : tie.MeasureT-loop
 μ-loop o n out₀ at words i₀ out i = n - i
 
--- src/set.rt:112:5
 loop-holds : tie.Need-loop-holds Inv-loop μ-loop
 loop-holds c = (search needs, refl, refl)
 
--- src/set.rt:113:23
 mul-write-word : tie.Need-mul-write-word Inv-loop μ-loop
 mul-write-word c = search needs
 
--- src/set.rt:113:23
 array-read-write-word : tie.Need-array-read-write-word Inv-loop μ-loop
 array-read-write-word c = search needs
 
--- src/set.rt:113:43
 mul-write-word-2 : tie.Need-mul-write-word-2 Inv-loop μ-loop
 mul-write-word-2 c = search needs
 
--- src/set.rt:113:38
 add-write-word : tie.Need-add-write-word Inv-loop μ-loop
 add-write-word c = search needs
 
--- src/set.rt:113:9
 write-word-requires : tie.Need-write-word-requires Inv-loop μ-loop
 write-word-requires c κs = omega arith
 
--- src/set.rt:114:9
 add-i : tie.Need-add-i Inv-loop μ-loop
 add-i c = search needs
 
--- src/set.rt:112:5
 loop-less : tie.Need-loop-less Inv-loop μ-loop
 loop-less c = search needs
 
--- src/set.rt:112:5
 loop-again : tie.Need-loop-again Inv-loop μ-loop
 loop-again c =
     let w = c .before .before in
@@ -61,11 +49,9 @@ loop-again c =
       bytes-more (a .o) (a .t2) (a .at) (l .i) (a .out .now) (l .out) (w .write-word .last .1 .1 .0) (l .inv .2) (w .write-word .ensures),
     )
 
--- src/set.rt:106:1
 same-length : tie.Need-same-length Inv-loop μ-loop
 same-length c = c .before .loop .inv .1
 
--- src/set.rt:106:1
 returns : tie.Need-returns Inv-loop μ-loop
 returns c =
     let a = c .before .before .before .args in

@@ -7,49 +7,36 @@ use native.Mathlib.Omega.{arith}
 use borrow.Author.Needs.{needs}
 use Rattle.sequence_number.proofs.set.FragmentNumberSet.write_to.Statement.{statement}
 use Rattle.sequence_number.proofs.set.FragmentNumberSet.write_to.Tie as tie
-use Rattle.sequence_number.proofs.set.FragmentNumberSet.write_to.Reads as reads
-use Rattle.sequence_number.proofs.set.FragmentNumberSet.write_to.Lts as lts
-use Rattle.sequence_number.proofs.set.write_bits.Reads as write-bits-reads
-use Rattle.sequence_number.proofs.set.write_room.Reads as write-room-reads
-use Rattle.sequence_number.proofs.word.write_word.Reads as write-word-reads
 
--- src/set.rt:258:15
 write-room-requires : tie.Need-write-room-requires
 write-room-requires c κs = search needs
 
--- src/set.rt:259:30
 enum-known-n : tie.Need-enum-known-n
 enum-known-n c = search needs
 
--- src/set.rt:260:28
 enum-known-n-2 : tie.Need-enum-known-n-2
 enum-known-n-2 c = search needs
 
--- src/set.rt:261:17
 write-word-requires : tie.Need-write-word-requires
 write-word-requires c κs =
     let a = c .before .before .before .before .before .before .before .args in
     let m = wrote-means 4 (a .self .count) (length (a .out .now)) _ (c .before .before .n2 .given .1) (c .before .before .before .before .write-room .ensures) in
     omega arith
 
--- src/set.rt:262:17
 write-bits-requires : tie.Need-write-bits-requires
 write-bits-requires c κs =
     let a = c .before .before .before .before .before .before .before .before .before .before .before .args in
     let m = wrote-means 4 (a .self .count) (length (a .out .now)) _ (c .before .before .before .before .before .before .n2 .given .1) (c .before .before .before .before .before .before .before .before .write-room .ensures) in
     (m .0, omega (arith, c .before .before .before .write-word .kept .1 .1 .0))
 
--- src/set.rt:252:5
 returns : tie.Need-returns
 returns c =
     let a = c .before .before .before .before .before .before .args in
     set-not-written fragment fragment-lawful (a .o) (fragmentSet (a .self)) (a .out .now) _ (c .before .n .given .1) (c .before .before .before .write-room .ensures)
 
--- src/set.rt:252:5
 same-length : tie.Need-same-length
 same-length c = search needs
 
--- src/set.rt:252:5
 returns-2 : tie.Need-returns-2
 returns-2 c =
     let a = c .before .before .before .before .before .before .before .before .before .before .before .before .before .before .args in

@@ -9,64 +9,48 @@ use native.Mathlib.Omega.{arith}
 use borrow.Author.Needs.{needs}
 use Rattle.sequence_number.proofs.set.SequenceNumberSet.read_from.Statement.{statement}
 use Rattle.sequence_number.proofs.set.SequenceNumberSet.read_from.Tie as tie
-use Rattle.sequence_number.proofs.set.SequenceNumberSet.read_from.Reads as reads
-use Rattle.sequence_number.proofs.set.SequenceNumberSet.read_from.Lts as lts
-use Rattle.sequence_number.proofs.set.read_count.Reads as read-count-reads
-use Rattle.sequence_number.proofs.set.read_words.Reads as read-words-reads
-use Rattle.sequence_number.proofs.wire.sequence_at.Reads as sequence-at-reads
 
--- src/set.rt:159:15
 read-count-requires : tie.Need-read-count-requires
 read-count-requires c κs = search needs
 
--- src/set.rt:160:31
 enum-known-refusal : tie.Need-enum-known-refusal
 enum-known-refusal c = search needs
 
--- src/set.rt:172:28
 enum-known-count : tie.Need-enum-known-count
 enum-known-count c = search needs
 
--- src/set.rt:173:27
 add-n : tie.Need-add-n
 add-n c =
     let a = c .before .before .before .before .before .args in
     let t = bits-there 8 (a .o) (a .s .now) _ _ (c .before .before .before .read-count .ensures) (c .before .count .given .1) in
     record { fits = omega arith }
 
--- src/set.rt:173:25
 cast-n : tie.Need-cast-n
 cast-n c = search needs
 
--- src/set.rt:174:21
 sequence-at-requires : tie.Need-sequence-at-requires
 sequence-at-requires c κs =
     let a = c .before .before .before .before .before .args in
     let t = bits-there 8 (a .o) (a .s .now) _ _ (c .before .before .before .read-count .ensures) (c .before .count .given .1) in
     omega arith
 
--- src/set.rt:175:21
 read-words-requires : tie.Need-read-words-requires
 read-words-requires c κs =
     let a = c .before .before .before .before .before .before .args in
     let t = bits-there 8 (a .o) (a .s .now) _ _ (c .before .before .before .before .read-count .ensures) (c .before .before .count .given .1) in
     (omega arith, omega arith)
 
--- src/set.rt:183:33
 mul-t15 : tie.Need-mul-t15
 mul-t15 c = search needs
 
--- src/set.rt:183:28
 add-t16 : tie.Need-add-t16
 add-t16 c = search needs
 
--- src/set.rt:156:5
 returns : tie.Need-returns
 returns c =
     let a = c .before .before .before .before .before .args in
     set-refused sequence (a .o) (a .s .now) sequenceSetRead _ (c .before .refusal .given .1) (c .before .before .before .read-count .ensures)
 
--- src/set.rt:156:5
 returns-2 : tie.Need-returns-2
 returns-2 c =
     let a = c .before .before .before .before .before .before .before .args in

@@ -1,4 +1,5 @@
 use Rattle.sequence_number.specs.Kind.{sequenceBytes}
+use mir.Syntax.{w64}
 use mir.Facts.{toZ-ofZ}
 use mathlib.Core.Path.{ap, _∙_}
 use lib.Seq.{sets}
@@ -12,55 +13,42 @@ use native.Mathlib.Omega.{arith}
 use borrow.Author.Needs.{needs}
 use Rattle.sequence_number.proofs.set.SequenceNumberSet.write_to.Statement.{statement}
 use Rattle.sequence_number.proofs.set.SequenceNumberSet.write_to.Tie as tie
-use Rattle.sequence_number.proofs.set.SequenceNumberSet.write_to.Reads as reads
-use Rattle.sequence_number.proofs.set.SequenceNumberSet.write_to.Lts as lts
-use Rattle.sequence_number.proofs.set.write_bits.Reads as write-bits-reads
-use Rattle.sequence_number.proofs.set.write_room.Reads as write-room-reads
-use Rattle.sequence_number.proofs.wire.sequence_to.Reads as sequence-to-reads
 
--- src/set.rt:197:15
 write-room-requires : tie.Need-write-room-requires
 write-room-requires c κs = search needs
 
--- src/set.rt:198:30
 enum-known-n : tie.Need-enum-known-n
 enum-known-n c = search needs
 
--- src/set.rt:199:28
 enum-known-n-2 : tie.Need-enum-known-n-2
 enum-known-n-2 c = search needs
 
--- src/set.rt:200:17
 sequence-to-requires : tie.Need-sequence-to-requires
 sequence-to-requires c κs =
     let a = c .before .before .before .before .before .before .before .before .args in
     let m = wrote-means 8 (a .self .count) (length (a .out .now)) _ (c .before .before .n2 .given .1) (c .before .before .before .before .write-room .ensures) in
     omega arith
 
--- src/set.rt:201:17
 write-bits-requires : tie.Need-write-bits-requires
 write-bits-requires c κs =
     let a = c .before .before .before .before .before .before .before .before .before .before .before .before .args in
     let m = wrote-means 8 (a .self .count) (length (a .out .now)) _ (c .before .before .before .before .before .before .n2 .given .1) (c .before .before .before .before .before .before .before .before .write-room .ensures) in
     (m .0, omega (arith, c .before .before .before .sequence-to .kept .1 .1 .0))
 
--- src/set.rt:191:5
 returns : tie.Need-returns
 returns c =
     let a = c .before .before .before .before .before .before .before .args in
     set-not-written sequence sequence-lawful (a .o) (sequenceSet (a .self)) (a .out .now) _ (c .before .n .given .1) (c .before .before .before .write-room .ensures)
 
--- src/set.rt:191:5
 same-length : tie.Need-same-length
 same-length c = search needs
 
--- src/set.rt:191:5
 returns-2 : tie.Need-returns-2
 returns-2 c =
     let a = c .before .before .before .before .before .before .before .before .before .before .before .before .before .before .before .args in
     set-written sequence sequence-lawful (a .o) (sequenceSet (a .self)) (a .out .now) _ (c .before .before .before .before .before .before .before .before .before .n2 .given .1) (c .before .before .before .before .before .before .before .before .before .before .before .write-room .ensures)
     (c .before .before .before .before .before .before .sequence-to .last .1 .1 .0) (c .before .before .write-bits .last .1 .1 .1 .0)
-    (c .before .before .before .before .before .before .sequence-to .ensures ∙ ap (λ (z : ℤ). sets (a .out .now) 0 (sequenceBytes (a .o) z)) (toZ-ofZ (record { sfits = c .before .before .before .before .before .before .before .before .before .before .before .before .before .struct-told .given .0 .1 }))) (c .before .before .write-bits .ensures)
+    (c .before .before .before .before .before .before .sequence-to .ensures ∙ ap (λ (z : ℤ). sets (a .out .now) 0 (sequenceBytes (a .o) z)) (toZ-ofZ {w = w64} {z = a .self .base} (record { sfits = c .before .before .before .before .before .before .before .before .before .before .before .before .before .struct-told .given .0 .1 }))) (c .before .before .write-bits .ensures)
 
 pub write-to-spec : {M : Type 1} → statement M
 write-to-spec =
