@@ -1,16 +1,19 @@
 -- Laws of `specs/Kind.antt`, and what every kind of number has in common: `Lawful`. Assumes nothing.
-use Prim.Native.Nat.{ℕ, suc, _+_, _*_, _-_, _/_, _%_, _^_, _<_}
-use mathlib.Core.Path.{_≡_, ap, _∙_, sym}
+use Prim.Native.Nat.{ℕ, suc, _+_, _*_, _-_, _/_, _%_, _^_, _<_, _≤_}
+use mathlib.Core.Path.{_≡_, refl, ap, _∙_, sym}
 use mathlib.Core.List.{List, _++_, append-assoc}
-use mathlib.Core.Logic.{⊎-elim}
+use mathlib.Core.Logic.{_⊎_, inl, inr, ⊎-elim}
+use mathlib.Core.Bool.{true, false}
 use native.Mathlib.Omega.{arith}
 use lib.ListN.{length, length-append}
 use lib.Seq.{sets}
 use lib.IntN.{ℤ, pos, negsuc, _+ℤ_, _*ℤ_}
+use lib.Signed.{ltZ}
+use Rattle.sequence_number.specs.Number.{natOf}
 use mir.Syntax.{w32, w64}
 use mir.Val.{Fits, SFits, ofZ, toZ}
 use mir.Facts.{toZ-ofZ, toZ-pos, toZ-neg, fits-ofZ}
-use borrow.Author.Tests.{lt-ltb}
+use borrow.Author.Tests.{lt-ltb, le-ltb, ltb-true, ltb-false}
 use Rattle.sequence_number.specs.Word.{wordAt, wordBytes}
 use Rattle.sequence_number.specs.Kind.{Kind, sequence, fragment, sequenceAt, sequenceBytes}
 use Rattle.sequence_number.specs.declared.ByteOrder.{ByteOrder}
@@ -57,20 +60,14 @@ sequence-written o l l′ l″ at u n p q r =
     (ap (λ (k : ℕ). at + k) (sym (length-bytes o (u / 4294967296)))) q r
     ∙ ap (λ (v : ℕ). sets l at (wordBytes o (v / 4294967296) ++ wordBytes o (v % 4294967296))) p
 
--- what every kind of number has in common. Valid: a number of the type
-pub record Lawful (k : Kind) : Type 1 where
-  pub Valid : k .Number → Type 0
-  pub length-number : (o : ByteOrder) (n : k .Number) → length (k .numberBytes o n) ≡ k .size
-  pub number-back : (o : ByteOrder) (n : k .Number) (rest : List ℕ) → Valid n → k .numberAt o (k .numberBytes o n ++ rest) 0 ≡ n
-
-length-sequence : (o : ByteOrder) (n : ℤ) → length (sequenceBytes o n) ≡ 8
+pub length-sequence : (o : ByteOrder) (n : ℤ) → length (sequenceBytes o n) ≡ 8
 length-sequence o n =
     let a = length-bytes o (ofZ w64 n / 2 ^ 32) in
     let b = length-bytes o (ofZ w64 n % 2 ^ 32) in
     omega (arith, length-append (wordBytes o (ofZ w64 n / 2 ^ 32)) (wordBytes o (ofZ w64 n % 2 ^ 32)))
 
 -- a sequence number that was written is read back
-sequence-back : (o : ByteOrder) (n : ℤ) (rest : List ℕ) → SFits w64 n → sequenceAt o (sequenceBytes o n ++ rest) 0 ≡ n
+pub sequence-back : (o : ByteOrder) (n : ℤ) (rest : List ℕ) → SFits w64 n → sequenceAt o (sequenceBytes o n ++ rest) 0 ≡ n
 sequence-back o n rest f =
     let u : ℕ = ofZ w64 n in
     let hi : List ℕ = wordBytes o (u / 4294967296) in
@@ -86,8 +83,82 @@ sequence-back o n rest f =
     ∙ ap (toZ w64) whole
     ∙ toZ-ofZ {w = w64} {z = n} f
 
-pub sequence-lawful : Lawful sequence
-sequence-lawful = record { Valid = SFits w64; length-number = length-sequence; number-back = sequence-back }
+-- ---- the order of a kind, by the naturals
 
-pub fragment-lawful : Lawful fragment
-fragment-lawful = record { Valid = Fits w32; length-number = length-bytes; number-back = λ o n rest f. word-bytes o n rest (f .fits) }
+pub rank-below : (a b : ℤ) → ltZ a b ≡ true → natOf a ≤ natOf b
+rank-below (pos a) (pos b) h = omega (arith, ltb-true a b h)
+rank-below (pos a) (negsuc b) h = let z : _≡_ {A = ℕ} 0 1 = cc in omega arith
+rank-below (negsuc a) b h = omega arith
+
+pub rank-above : (a b : ℤ) → ltZ b a ≡ false → natOf a ≤ natOf b
+rank-above (pos a) (pos b) h = omega (arith, ltb-false b a h)
+rank-above (pos a) (negsuc b) h = let z : _≡_ {A = ℕ} 0 1 = cc in omega arith
+rank-above (negsuc a) b h = omega arith
+
+pub plus-apart : (a b : ℤ) → 1 ≤ natOf a → natOf a ≤ natOf b → a +ℤ pos (natOf b - natOf a) ≡ b
+plus-apart (pos a) (pos b) h l = ap pos (omega arith)
+plus-apart (pos a) (negsuc b) h l = absurd (omega arith)
+plus-apart (negsuc a) b h l = absurd (omega arith)
+
+pub apart-plus : (a : ℤ) (i : ℕ) → 1 ≤ natOf a → natOf (a +ℤ pos i) - natOf a ≡ i
+apart-plus (pos a) i h = omega arith
+apart-plus (negsuc a) i h = absurd (omega arith)
+
+pub below-plus : (b : ℤ) (i j : ℕ) → i < j → ltZ (b +ℤ pos i) (b +ℤ pos j) ≡ true
+below-plus (pos b) i j h = lt-ltb (b + i) (b + j) (omega arith)
+below-plus (negsuc b) i j h = go (split-lt i (suc b)) (split-lt j (suc b))
+  where
+    go : (i < suc b) ⊎ (suc b ≤ i) → (j < suc b) ⊎ (suc b ≤ j) → ltZ (negsuc b +ℤ pos i) (negsuc b +ℤ pos j) ≡ true
+    go (inl p) (inl q) = rw (lt-ltb i (suc b) p, lt-ltb j (suc b) q) (lt-ltb (suc b - suc j) (suc b - suc i) (omega arith))
+    go (inl p) (inr q) = rw (lt-ltb i (suc b) p, le-ltb j (suc b) q)
+    go (inr p) (inl q) = absurd (omega arith)
+    go (inr p) (inr q) = rw (le-ltb i (suc b) p, le-ltb j (suc b) q) (lt-ltb (i - suc b) (j - suc b) (omega arith))
+
+-- ---- what every kind of number has in common
+
+pub record Lawful (k : Kind) : Type 1 where
+  -- a number of the type
+  pub Valid : k .Number → Type 0
+  pub length-number : (o : ByteOrder) (n : k .Number) → length (k .numberBytes o n) ≡ k .size
+  pub number-back : (o : ByteOrder) (n : k .Number) (rest : List ℕ) → Valid n → k .numberAt o (k .numberBytes o n ++ rest) 0 ≡ n
+  -- where a number stands among the naturals, a negative one at 0
+  pub rank : k .Number → ℕ
+  pub rank-below : (a b : k .Number) → k .below a b ≡ true → rank a ≤ rank b
+  pub rank-above : (a b : k .Number) → k .below b a ≡ false → rank a ≤ rank b
+  pub rank-least : rank (k .least) ≡ 1
+  pub apart-rank : (a b : k .Number) → k .apart a b ≡ rank b - rank a
+  pub plus-apart : (a b : k .Number) → 1 ≤ rank a → rank a ≤ rank b → k .plus a (k .apart a b) ≡ b
+  pub apart-plus : (a : k .Number) (i : ℕ) → 1 ≤ rank a → k .apart a (k .plus a i) ≡ i
+  pub below-plus : (b : k .Number) (i j : ℕ) → i < j → k .below (k .plus b i) (k .plus b j) ≡ true
+
+abbrev pub sequence-lawful : Lawful sequence
+sequence-lawful =
+    record {
+      Valid = SFits w64;
+      length-number = length-sequence;
+      number-back = sequence-back;
+      rank = natOf;
+      rank-below = rank-below;
+      rank-above = rank-above;
+      rank-least = refl;
+      apart-rank = λ a b. refl;
+      plus-apart = plus-apart;
+      apart-plus = apart-plus;
+      below-plus = below-plus;
+    }
+
+abbrev pub fragment-lawful : Lawful fragment
+fragment-lawful =
+    record {
+      Valid = Fits w32;
+      length-number = length-bytes;
+      number-back = λ o n rest f. word-bytes o n rest (f .fits);
+      rank = λ n. n;
+      rank-below = λ a b h. omega (arith, ltb-true a b h);
+      rank-above = λ a b h. omega (arith, ltb-false b a h);
+      rank-least = refl;
+      apart-rank = λ a b. refl;
+      plus-apart = λ a b h l. omega arith;
+      apart-plus = λ a i h. omega arith;
+      below-plus = λ b i j h. lt-ltb (b + i) (b + j) (omega arith);
+    }

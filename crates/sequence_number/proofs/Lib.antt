@@ -10,3 +10,4 @@ pub mod PositionLaws
 pub mod SetWireLaws
 pub mod WalkLaws
 pub mod FitLaws
+pub mod MakeLaws

@@ -64,13 +64,19 @@ module _ (size : ℕ) (o : ByteOrder) (s : List ℕ) where
 
     pub count-cut : n ≤ 256 → length s < bytesOf size n → refused 1 ≡ readCount size o s
     count-cut p q =
-        rw (le-ltb (length s) (size + 4) h, le-ltb 256 (wordAt o s size) (subst (λ (k : ℕ). k ≤ 256) e p),
-        lt-ltb (length s) (bytesOf size (wordAt o s size)) (subst (λ (k : ℕ). length s < bytesOf size k) e q))
+        rw (
+          le-ltb (length s) (size + 4) h,
+          le-ltb 256 (wordAt o s size) (subst (λ (k : ℕ). k ≤ 256) e p),
+          lt-ltb (length s) (bytesOf size (wordAt o s size)) (subst (λ (k : ℕ). length s < bytesOf size k) e q),
+        )
 
     pub count-done : n ≤ 256 → bytesOf size n ≤ length s → done n ≡ readCount size o s
     count-done p q =
-        rw (le-ltb (length s) (size + 4) h, le-ltb 256 (wordAt o s size) (subst (λ (k : ℕ). k ≤ 256) e p),
-        le-ltb (length s) (bytesOf size (wordAt o s size)) (subst (λ (k : ℕ). bytesOf size k ≤ length s) e q))
+        rw (
+          le-ltb (length s) (size + 4) h,
+          le-ltb 256 (wordAt o s size) (subst (λ (k : ℕ). k ≤ 256) e p),
+          le-ltb (length s) (bytesOf size (wordAt o s size)) (subst (λ (k : ℕ). bytesOf size k ≤ length s) e q),
+        )
         (ap done e)
 
   -- a count that is found is at most 256, and its words are there

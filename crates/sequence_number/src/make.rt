@@ -121,22 +121,14 @@ fn mark_fragment(list: &[u32], low: u32, count: u32) -> [u32; 8]
 fn sequence_made(refusal: u8, base: i64, count: u32, words: [u32; 8]) -> SequenceNumberSetMade
     ensures { λ r. ⌜ r ≡ record { refusal = refusal; set = record { base = base; count = count; words = words } } ⌝ }
 {
-    let set = SequenceNumberSet {
-        base,
-        count,
-        words,
-    };
+    let set = SequenceNumberSet { base, count, words };
     SequenceNumberSetMade { refusal, set }
 }
 
 fn fragment_made(refusal: u8, base: u32, count: u32, words: [u32; 8]) -> FragmentNumberSetMade
     ensures { λ r. ⌜ r ≡ record { refusal = refusal; set = record { base = base; count = count; words = words } } ⌝ }
 {
-    let set = FragmentNumberSet {
-        base,
-        count,
-        words,
-    };
+    let set = FragmentNumberSet { base, count, words };
     FragmentNumberSetMade { refusal, set }
 }
 

@@ -173,11 +173,7 @@ impl SequenceNumberSet {
                 let n = ((count + 31) / 32) as usize;
                 let base = sequence_at(o, s, 0);
                 let words = read_words(o, s, 12, n);
-                let set = SequenceNumberSet {
-                    base,
-                    count,
-                    words,
-                };
+                let set = SequenceNumberSet { base, count, words };
                 SequenceNumberSetRead {
                     refusal: 0,
                     taken: 12 + 4 * n,
@@ -234,11 +230,7 @@ impl FragmentNumberSet {
                 let n = ((count + 31) / 32) as usize;
                 let base = read_word(o, s, 0);
                 let words = read_words(o, s, 8, n);
-                let set = FragmentNumberSet {
-                    base,
-                    count,
-                    words,
-                };
+                let set = FragmentNumberSet { base, count, words };
                 FragmentNumberSetRead {
                     refusal: 0,
                     taken: 8 + 4 * n,

@@ -1,3 +1,5 @@
+-- `sequence_number::bitmap::has` meets its contract: the word shifted by the bit's place is odd; past the words no bit is set.
+-- Assumes nothing.
 use mathlib.Core.Path.{sym}
 use Rattle.sequence_number.proofs.BitLaws.{has-past}
 use borrow.Author.Needs.{needs}

@@ -1,3 +1,5 @@
+-- `sequence_number::bitmap::with_mask` meets its contract: an "or" with a power of two sets its bit.
+-- Assumes nothing.
 use Prim.Native.Nat.{_-_, _%_}
 use native.Mathlib.Omega.{arith}
 use Rattle.sequence_number.proofs.BitLaws.{or-one}

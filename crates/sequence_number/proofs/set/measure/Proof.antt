@@ -1,3 +1,5 @@
+-- `sequence_number::set::measure` meets its contract: each answer is a case of `measureSet`.
+-- Assumes nothing.
 use borrow.Author.Tests.{lt-ltb, le-ltb}
 use borrow.Author.Needs.{needs}
 use Rattle.sequence_number.proofs.set.measure.Statement.{statement}

@@ -1,3 +1,5 @@
+-- `sequence_number::set::read_count` meets its contract: each answer is a case of `readCount`.
+-- Assumes nothing.
 use Rattle.sequence_number.proofs.SetWireLaws.{count-short, count-long, count-cut, count-done}
 use borrow.Author.Needs.{needs}
 use Rattle.sequence_number.proofs.set.read_count.Statement.{statement}

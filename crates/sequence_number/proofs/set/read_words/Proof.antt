@@ -1,3 +1,5 @@
+-- `sequence_number::set::read_words` meets its contract: the words below i are read, one after the other, over zeros.
+-- Assumes nothing.
 use Rattle.sequence_number.proofs.SetWireLaws.{words-more, words-read}
 use Rattle.sequence_number.specs.SetWire.{wordsFrom, readWords}
 use Rattle.sequence_number.specs.NumberSet.{noWords}

@@ -1,3 +1,5 @@
+-- `sequence_number::set::write_bits` meets its contract: the count, and then its words, are one run.
+-- Assumes nothing.
 use Rattle.sequence_number.proofs.SetWireLaws.{bits-written}
 use borrow.Author.Needs.{needs}
 use Rattle.sequence_number.proofs.set.write_bits.Statement.{statement}

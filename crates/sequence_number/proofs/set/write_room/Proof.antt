@@ -1,3 +1,5 @@
+-- `sequence_number::set::write_room` meets its contract: each answer is a case of `writeSet`.
+-- Assumes nothing.
 use borrow.Author.Tests.{lt-ltb, le-ltb}
 use borrow.Author.Needs.{needs}
 use Rattle.sequence_number.proofs.set.write_room.Statement.{statement}

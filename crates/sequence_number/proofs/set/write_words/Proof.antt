@@ -1,3 +1,5 @@
+-- `sequence_number::set::write_words` meets its contract: the words below i are written, one after the other.
+-- Assumes nothing.
 use Rattle.sequence_number.proofs.SetWireLaws.{bytes-more}
 use Rattle.sequence_number.specs.SetWire.{wordsBytes}
 use lib.Seq.{sets}

@@ -1,3 +1,5 @@
+-- `sequence_number::walk::fall_sequence` meets its contract: the members from i on are written, the highest first.
+-- Assumes nothing.
 use Rattle.sequence_number.proofs.WalkLaws.{member-fits, Falling, falling-none, falling-yes, falling-no, falling-room, falling-long, falling-done}
 use Rattle.sequence_number.proofs.FitLaws.{sum-ok, sum-is}
 use Rattle.sequence_number.specs.Bitmap.{positions}
@@ -7,7 +9,7 @@ use mir.Val.{toZ}
 use mir.Syntax.{w64}
 use lib.IntN.{ℤ, pos, _+ℤ_}
 use lib.Seq.{sets}
-use lib.ListN.{length, set}
+use lib.ListN.{length}
 use native.Mathlib.Omega.{arith}
 use mathlib.Core.List.{map, reverse}
 use mathlib.Core.Bool.{true}
@@ -16,9 +18,6 @@ use Prim.Native.Nat.{ℕ, _-_, _<_}
 use borrow.Author.Needs.{needs}
 use Rattle.sequence_number.proofs.walk.fall_sequence.Statement.{statement}
 use Rattle.sequence_number.proofs.walk.fall_sequence.Tie as tie
-use Rattle.sequence_number.proofs.walk.fall_sequence.Reads as reads
-use Rattle.sequence_number.proofs.walk.fall_sequence.Lts as lts
-use Rattle.sequence_number.proofs.bitmap.has.Reads as has-reads
 
 abbrev Inv-loop : tie.InvT-loop
 Inv-loop base words count out₀ n₀ i₀ out n i = Falling (λ (k : ℕ). toZ w64 base +ℤ pos k) words count out₀ out n i
@@ -36,61 +35,47 @@ roomy : (c : tie.Then1 Inv-loop μ-loop) → c .before .before .before .loop .n 
 roomy c =
     falling-room _ _ _ _ _ _ _ (c .before .before .before .loop .inv) (c .before .before .loop-test .taken) (sym (c .before .has .ensures) ∙ c .if1 .taken) (c .before .before .before .before .pre .1 .1)
 
--- src/walk.rt:106:5
 loop-holds : tie.Need-loop-holds Inv-loop μ-loop
 loop-holds c = falling-none _ _ _ _
 
--- src/walk.rt:107:17
 sub-k : tie.Need-sub-k Inv-loop μ-loop
 sub-k c = search needs
 
--- src/walk.rt:108:12
 has-requires : tie.Need-has-requires Inv-loop μ-loop
 has-requires c κs = search needs
 
--- src/walk.rt:109:28
 cast-x : tie.Need-cast-x Inv-loop μ-loop
 cast-x c = search needs
 
--- src/walk.rt:109:21
 add-x : tie.Need-add-x Inv-loop μ-loop
 add-x c = sum-ok (c .before .before .before .before .args .base) (c .before .before .before .loop .i - 1) (c .before .before .before .before .fits .base) (omega arith) (fits-here c)
 
--- src/walk.rt:110:13
 mul-x : tie.Need-mul-x Inv-loop μ-loop
 mul-x c = omega (arith, roomy c, falling-long _ _ _ _ _ _ _ (c .before .before .before .loop .inv))
 
--- src/walk.rt:110:13
 slice-set-from-x : tie.Need-slice-set-from-x Inv-loop μ-loop
 slice-set-from-x c = roomy c
 
--- src/walk.rt:111:13
 add-n : tie.Need-add-n Inv-loop μ-loop
 add-n c = omega (arith, roomy c, falling-long _ _ _ _ _ _ _ (c .before .before .before .loop .inv))
 
--- src/walk.rt:106:5
 loop-less : tie.Need-loop-less Inv-loop μ-loop
 loop-less c = search needs
 
--- src/walk.rt:106:5
 loop-again : tie.Need-loop-again Inv-loop μ-loop
 loop-again c =
     rw (sum-is (c .before .before .before .before .args .base) (c .before .before .before .loop .i - 1) (c .before .before .before .before .fits .base) (omega arith) (fits-here c))
     (falling-yes _ _ _ _ _ _ _ (c .before .before .before .loop .inv) (c .before .before .loop-test .taken) (sym (c .before .has .ensures) ∙ c .if1 .taken))
 
--- src/walk.rt:106:5
 loop-less-2 : tie.Need-loop-less-2 Inv-loop μ-loop
 loop-less-2 c = search needs
 
--- src/walk.rt:106:5
 loop-again-2 : tie.Need-loop-again-2 Inv-loop μ-loop
 loop-again-2 c = falling-no _ _ _ _ _ _ _ (c .before .before .before .loop .inv) (c .before .before .loop-test .taken) (sym (c .before .has .ensures) ∙ c .if1 .left)
 
--- src/walk.rt:98:1
 same-length : tie.Need-same-length Inv-loop μ-loop
 same-length c = falling-long _ _ _ _ _ _ _ (c .before .loop .inv)
 
--- src/walk.rt:98:1
 returns : tie.Need-returns Inv-loop μ-loop
 returns c =
     let a = c .before .before .args in

@@ -1,3 +1,5 @@
+-- `sequence_number::set::FragmentNumberSet::iter` meets its contract: what the survey said, with the members written, is a case of `Walks`.
+-- Assumes nothing.
 use Prim.Native.Nat.{ℕ, _<_}
 use mathlib.Core.Path.{_≡_}
 use lib.Dec.{ltb}
@@ -8,81 +10,62 @@ use Rattle.sequence_number.proofs.FitLaws.{fragment-agree}
 use borrow.Author.Needs.{needs}
 use Rattle.sequence_number.proofs.set.FragmentNumberSet.iter.Statement.{statement}
 use Rattle.sequence_number.proofs.set.FragmentNumberSet.iter.Tie as tie
-use Rattle.sequence_number.proofs.set.FragmentNumberSet.iter.Reads as reads
-use Rattle.sequence_number.proofs.set.FragmentNumberSet.iter.Lts as lts
-use Rattle.sequence_number.proofs.walk.fall_fragment.Reads as fall-fragment-reads
-use Rattle.sequence_number.proofs.walk.fragment_fit.Reads as fragment-fit-reads
-use Rattle.sequence_number.proofs.walk.rise_fragment.Reads as rise-fragment-reads
-use Rattle.sequence_number.proofs.walk.survey.Reads as survey-reads
 
 -- the first position that does not fit
 agree : (h : tie.After-survey) → (i : ℕ) → i < 256 → ltb i (h .before .fragment-fit .result) ≡ fragment .fits (h .before .before .before .before .before .args .self .base) i
 agree h = fragment-agree _ _ (h .before .fragment-fit .ensures)
 
--- src/walk.rt:172:13
 returns : tie.Need-returns
 returns c = walk-long fragment (fragmentSet (c .before .before .before .args .self)) (c .before .before .before .args .up) (c .before .before .before .args .out .now) (c .if1 .taken)
 
--- src/walk.rt:174:36
 fragment-fit-requires : tie.Need-fragment-fit-requires
 fragment-fit-requires c κs = search needs
 
--- src/walk.rt:174:15
 survey-requires : tie.Need-survey-requires
 survey-requires c κs = search needs
 
--- src/walk.rt:175:29
 enum-known-n : tie.Need-enum-known-n
 enum-known-n c = search needs
 
--- src/walk.rt:176:28
 enum-known-n-2 : tie.Need-enum-known-n-2
 enum-known-n-2 c = search needs
 
--- src/walk.rt:178:21
 returns-2 : tie.Need-returns-2
 returns-2 c =
     let h = c .before .before .before .before in
     let a = h .before .before .before .before .before .args in
     walk-short fragment (fragmentSet (a .self)) (a .up) (a .out .now) (h .before .before .if1 .left) (h .before .fragment-fit .result) (agree h) (h .survey .result) (h .survey .ensures) _ (c .before .before .n2 .given .1) (c .if2 .taken)
 
--- src/walk.rt:181:21
 rise-fragment-requires : tie.Need-rise-fragment-requires
 rise-fragment-requires c κs =
     let h = c .before .before .before .before .before .before in
     let a = h .before .before .before .before .before .args in
     walk-room fragment (fragmentSet (a .self)) (a .up) (a .out .now) (h .before .before .if1 .left) (h .before .fragment-fit .result) (agree h) (h .survey .result) (h .survey .ensures) _ (c .before .before .before .before .n2 .given .1) (c .before .before .if2 .left)
 
--- src/walk.rt:182:21
 same-length : tie.Need-same-length
 same-length c = search needs
 
--- src/walk.rt:182:21
 returns-3 : tie.Need-returns-3
 returns-3 c =
     let h = c .before .before .before .before .before .before .before .before .before in
     let a = h .before .before .before .before .before .args in
     walk-up fragment (fragmentSet (a .self)) (a .up) (a .out .now) (h .before .before .if1 .left) (h .before .fragment-fit .result) (agree h) (h .survey .result) (h .survey .ensures) _ (c .before .before .before .before .before .before .before .n2 .given .1) (c .before .before .before .before .if3 .taken) (c .before .before .before .before .before .if2 .left) (c .before .before .rise-fragment .last .1 .1 .1 .0) (c .before .before .rise-fragment .ensures)
 
--- src/walk.rt:184:17
 fall-fragment-requires : tie.Need-fall-fragment-requires
 fall-fragment-requires c κs =
     let h = c .before .before .before .before .before .before in
     let a = h .before .before .before .before .before .args in
     walk-room fragment (fragmentSet (a .self)) (a .up) (a .out .now) (h .before .before .if1 .left) (h .before .fragment-fit .result) (agree h) (h .survey .result) (h .survey .ensures) _ (c .before .before .before .before .n2 .given .1) (c .before .before .if2 .left)
 
--- src/walk.rt:165:5
 returns-4 : tie.Need-returns-4
 returns-4 c =
     let h = c .before .before .before in
     let a = h .before .before .before .before .before .args in
     walk-past fragment (fragmentSet (a .self)) (a .up) (a .out .now) (h .before .before .if1 .left) (h .before .fragment-fit .result) (agree h) (h .survey .result) (h .survey .ensures) _ (c .before .n .given .1)
 
--- src/walk.rt:165:5
 same-length-2 : tie.Need-same-length-2
 same-length-2 c = search needs
 
--- src/walk.rt:165:5
 returns-5 : tie.Need-returns-5
 returns-5 c =
     let h = c .before .before .before .before .before .before .before .before .before in

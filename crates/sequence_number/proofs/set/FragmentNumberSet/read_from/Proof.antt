@@ -1,3 +1,5 @@
+-- `sequence_number::set::FragmentNumberSet::read_from` meets its contract: what the count said, with the base and the words, is a case of `readSet`.
+-- Assumes nothing.
 use Rattle.sequence_number.specs.SetWire.{fragmentSetRead}
 use Rattle.sequence_number.proofs.SetWireLaws.{bits-there, set-refused, set-read}
 use Rattle.sequence_number.specs.Kind.{fragment}

@@ -1,3 +1,5 @@
+-- `sequence_number::set::FragmentNumberSet::write_to` meets its contract: the base, and then the count and its words, are one run.
+-- Assumes nothing.
 use Rattle.sequence_number.proofs.SetWireLaws.{wrote-means, set-not-written, set-written}
 use Rattle.sequence_number.proofs.KindLaws.{fragment-lawful}
 use Rattle.sequence_number.specs.NumberSet.{fragmentSet}

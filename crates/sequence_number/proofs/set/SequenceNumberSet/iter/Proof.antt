@@ -1,3 +1,5 @@
+-- `sequence_number::set::SequenceNumberSet::iter` meets its contract: what the survey said, with the members written, is a case of `Walks`.
+-- Assumes nothing.
 use Prim.Native.Nat.{ℕ, _<_}
 use mathlib.Core.Path.{_≡_, ap, _∙_}
 use lib.Dec.{ltb}
@@ -14,12 +16,6 @@ use Rattle.sequence_number.specs.Bitmap.{positions}
 use borrow.Author.Needs.{needs}
 use Rattle.sequence_number.proofs.set.SequenceNumberSet.iter.Statement.{statement}
 use Rattle.sequence_number.proofs.set.SequenceNumberSet.iter.Tie as tie
-use Rattle.sequence_number.proofs.set.SequenceNumberSet.iter.Reads as reads
-use Rattle.sequence_number.proofs.set.SequenceNumberSet.iter.Lts as lts
-use Rattle.sequence_number.proofs.walk.fall_sequence.Reads as fall-sequence-reads
-use Rattle.sequence_number.proofs.walk.rise_sequence.Reads as rise-sequence-reads
-use Rattle.sequence_number.proofs.walk.sequence_fit.Reads as sequence-fit-reads
-use Rattle.sequence_number.proofs.walk.survey.Reads as survey-reads
 
 -- the base as it reached the calls
 back : (h : tie.After-survey) → toZ w64 (ofZ w64 (h .before .before .before .before .before .args .self .base)) ≡ h .before .before .before .before .before .args .self .base
@@ -29,70 +25,57 @@ back h = toZ-ofZ {w = w64} {z = h .before .before .before .before .before .args 
 agree : (h : tie.After-survey) → (i : ℕ) → i < 256 → ltb i (h .before .sequence-fit .result) ≡ sequence .fits (h .before .before .before .before .before .args .self .base) i
 agree h i p = h .before .sequence-fit .ensures i p ∙ ap (λ (b : ℤ). sequence .fits b i) (back h)
 
--- src/walk.rt:144:13
 returns : tie.Need-returns
 returns c = walk-long sequence (sequenceSet (c .before .before .before .args .self)) (c .before .before .before .args .up) (c .before .before .before .args .out .now) (c .if1 .taken)
 
--- src/walk.rt:146:36
 sequence-fit-requires : tie.Need-sequence-fit-requires
 sequence-fit-requires c κs = search needs
 
--- src/walk.rt:146:15
 survey-requires : tie.Need-survey-requires
 survey-requires c κs = search needs
 
--- src/walk.rt:147:29
 enum-known-n : tie.Need-enum-known-n
 enum-known-n c = search needs
 
--- src/walk.rt:148:28
 enum-known-n-2 : tie.Need-enum-known-n-2
 enum-known-n-2 c = search needs
 
--- src/walk.rt:150:21
 returns-2 : tie.Need-returns-2
 returns-2 c =
     let h = c .before .before .before .before in
     let a = h .before .before .before .before .before .args in
     walk-short sequence (sequenceSet (a .self)) (a .up) (a .out .now) (h .before .before .if1 .left) (h .before .sequence-fit .result) (agree h) (h .survey .result) (h .survey .ensures) _ (c .before .before .n2 .given .1) (c .if2 .taken)
 
--- src/walk.rt:153:21
 rise-sequence-requires : tie.Need-rise-sequence-requires
 rise-sequence-requires c κs =
     let h = c .before .before .before .before .before .before in
     let a = h .before .before .before .before .before .args in
     rw (back h) (walk-room sequence (sequenceSet (a .self)) (a .up) (a .out .now) (h .before .before .if1 .left) (h .before .sequence-fit .result) (agree h) (h .survey .result) (h .survey .ensures) _ (c .before .before .before .before .n2 .given .1) (c .before .before .if2 .left))
 
--- src/walk.rt:154:21
 same-length : tie.Need-same-length
 same-length c = search needs
 
--- src/walk.rt:154:21
 returns-3 : tie.Need-returns-3
 returns-3 c =
     let h = c .before .before .before .before .before .before .before .before in
     let a = h .before .before .before .before .before .args in
     walk-up sequence (sequenceSet (a .self)) (a .up) (a .out .now) (h .before .before .if1 .left) (h .before .sequence-fit .result) (agree h) (h .survey .result) (h .survey .ensures) _ (c .before .before .before .before .before .before .n2 .given .1) (c .before .before .before .if3 .taken) (c .before .before .before .before .if2 .left) (c .before .rise-sequence .last .1 .1 .1 .0) (c .before .rise-sequence .ensures ∙ ap (λ (b : ℤ). sets (a .out .now) 0 (map (sequence .plus b) (positions (a .self .words) (a .self .count)))) (back h))
 
--- src/walk.rt:156:17
 fall-sequence-requires : tie.Need-fall-sequence-requires
 fall-sequence-requires c κs =
     let h = c .before .before .before .before .before .before in
     let a = h .before .before .before .before .before .args in
     rw (back h) (walk-room sequence (sequenceSet (a .self)) (a .up) (a .out .now) (h .before .before .if1 .left) (h .before .sequence-fit .result) (agree h) (h .survey .result) (h .survey .ensures) _ (c .before .before .before .before .n2 .given .1) (c .before .before .if2 .left))
 
--- src/walk.rt:137:5
 returns-4 : tie.Need-returns-4
 returns-4 c =
     let h = c .before .before .before in
     let a = h .before .before .before .before .before .args in
     walk-past sequence (sequenceSet (a .self)) (a .up) (a .out .now) (h .before .before .if1 .left) (h .before .sequence-fit .result) (agree h) (h .survey .result) (h .survey .ensures) _ (c .before .n .given .1)
 
--- src/walk.rt:137:5
 same-length-2 : tie.Need-same-length-2
 same-length-2 c = search needs
 
--- src/walk.rt:137:5
 returns-5 : tie.Need-returns-5
 returns-5 c =
     let h = c .before .before .before .before .before .before .before .before in

@@ -1,3 +1,5 @@
+-- `sequence_number::set::SequenceNumberSet::read_from` meets its contract: what the count said, with the base and the words, is a case of `readSet`.
+-- Assumes nothing.
 use mir.Facts.{toZ-ofZ}
 use mir.Val.{ofZ, toZ}
 use mir.Syntax.{w64}

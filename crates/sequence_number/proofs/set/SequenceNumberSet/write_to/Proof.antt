@@ -1,3 +1,5 @@
+-- `sequence_number::set::SequenceNumberSet::write_to` meets its contract: the base, and then the count and its words, are one run.
+-- Assumes nothing.
 use Rattle.sequence_number.specs.Kind.{sequenceBytes}
 use mir.Syntax.{w64}
 use mir.Facts.{toZ-ofZ}
