@@ -1,16 +1,16 @@
--- What the exported calls promise: the port's own definitions, with the refusal number as the answer and what was found behind a
--- reference. Assumes nothing.
+-- What the exported calls promise: the port's own definitions, with the refusal number as the answer, and what was found behind
+-- references and in lent lists. Assumes nothing.
 use Prim.Native.Nat.{ℕ}
 use mathlib.Core.Path.{_≡_}
 use mathlib.Core.Bool.{Bool, cond}
 use mathlib.Core.List.{List}
-use lib.ListN.{length}
 use Rattle.sequence_number.specs.Outcome.{Outcome, refused, done, refusal, left}
-use Rattle.sequence_number.specs.Kind.{Kind}
-use Rattle.sequence_number.specs.NumberWire.{readNumber, writeNumber}
+use Rattle.sequence_number.specs.SetWire.{Taken}
+use Rattle.sequence_number.specs.NumberSet.{NumberSet}
 use Rattle.sequence_number.specs.declared.ByteOrder.{ByteOrder}
 use Rattle.sequence_number.specs.declared.ByteOrder.the-variants.{Big, Little}
 
+-- big: the most significant byte of a word first
 abbrev pub orderOf : Bool → ByteOrder
 orderOf b = cond b Big Little
 
@@ -19,10 +19,19 @@ abbrev pub given : {A : Type 0} → Outcome A → A → A
 given (refused n) before = before
 given (done a) before = a
 
-pub record ReadsOut (k : Kind) (o : ByteOrder) (s : List ℕ) (before : k .Number) (r : ℕ) (after : k .Number) : Type 0 where
-  pub answer : r ≡ refusal (readNumber k o s)
-  pub number : after ≡ given (readNumber k o s) before
+-- the answer is the refusal number, 0 for none, and what is found stands behind the references
+pub record Gives {A : Type 0} (x : Outcome A) (before : A) (r : ℕ) (after : A) : Type 0 where
+  pub answer : r ≡ refusal x
+  pub value : after ≡ given x before
 
-pub record WritesOut (k : Kind) (o : ByteOrder) (n : k .Number) (before : List ℕ) (r : ℕ) (after : List ℕ) : Type 0 where
-  pub answer : r ≡ refusal (writeNumber k (length before))
-  pub bytes : after ≡ left (writeNumber k (length before)) (k .numberBytes o n) before
+-- the same with a lent list, in which an accepted call leaves ms
+pub record Lends {A B : Type 0} (x : Outcome A) (ms out : List B) (r : ℕ) (after : List B) : Type 0 where
+  pub answer : r ≡ refusal x
+  pub entries : after ≡ left x ms out
+
+-- a set, and how many bytes it took, by their parts
+abbrev pub setOf : {N : Type 0} → N → ℕ → List ℕ → NumberSet N
+setOf base count words = record { base = base; count = count; words = words }
+
+abbrev pub takenOf : {N : Type 0} → N → ℕ → List ℕ → ℕ → Taken N
+takenOf base count words taken = record { set = setOf base count words; taken = taken }

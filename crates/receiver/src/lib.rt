@@ -2,3 +2,4 @@
 // with the same promise. A call that can be refused answers 0 or document 01's refusal number; what it says beyond that it
 // writes through the references, and a refused call writes nothing.
 pub mod numbers;
+pub mod sets;

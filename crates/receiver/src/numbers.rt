@@ -4,8 +4,10 @@ use sequence_number::wire::FragmentNumberRead;
 use sequence_number::wire::SequenceNumberRead;
 use sequence_number::wire::Written;
 ghost use mathlib.Core.Path.{_≡_};
+ghost use lib.ListN.{length};
 ghost use Rattle.sequence_number.specs.Kind.{sequence, fragment};
-ghost use Rattle.receiver.specs.Exports.{orderOf, ReadsOut, WritesOut};
+ghost use Rattle.sequence_number.specs.NumberWire.{readNumber, writeNumber};
+ghost use Rattle.receiver.specs.Exports.{orderOf, Gives, Lends};
 
 // big: the most significant byte of a word first.
 pub(crate) fn order_of(big: bool) -> ByteOrder
@@ -19,7 +21,7 @@ pub(crate) fn order_of(big: bool) -> ByteOrder
 
 #[no_mangle]
 pub extern "C" fn drucenal_read_sequence_number(big: bool, bytes: &[u8], number: &mut i64) -> u32
-    ensures { λ r. ⌜ ReadsOut sequence (orderOf big) (now (bytes .entry)) (now (number .entry)) r (now (number .exit)) ⌝ }
+    ensures { λ r. ⌜ Gives (readNumber sequence (orderOf big) (now (bytes .entry))) (now (number .entry)) r (now (number .exit)) ⌝ }
 {
     match sequence_number::wire::read_sequence_number(order_of(big), bytes) {
         SequenceNumberRead::Refused(n) => n as u32,
@@ -32,7 +34,7 @@ pub extern "C" fn drucenal_read_sequence_number(big: bool, bytes: &[u8], number:
 
 #[no_mangle]
 pub extern "C" fn drucenal_write_sequence_number(big: bool, number: i64, out: &mut [u8]) -> u32
-    ensures { λ r. ⌜ WritesOut sequence (orderOf big) number (now (out .entry)) r (now (out .exit)) ⌝ }
+    ensures { λ r. ⌜ Lends (writeNumber sequence (length (now (out .entry)))) (sequence .numberBytes (orderOf big) number) (now (out .entry)) r (now (out .exit)) ⌝ }
 {
     match sequence_number::wire::write_sequence_number(order_of(big), number, out) {
         Written::Refused(n) => n as u32,
@@ -42,7 +44,7 @@ pub extern "C" fn drucenal_write_sequence_number(big: bool, number: i64, out: &m
 
 #[no_mangle]
 pub extern "C" fn drucenal_read_fragment_number(big: bool, bytes: &[u8], number: &mut u32) -> u32
-    ensures { λ r. ⌜ ReadsOut fragment (orderOf big) (now (bytes .entry)) (now (number .entry)) r (now (number .exit)) ⌝ }
+    ensures { λ r. ⌜ Gives (readNumber fragment (orderOf big) (now (bytes .entry))) (now (number .entry)) r (now (number .exit)) ⌝ }
 {
     match sequence_number::wire::read_fragment_number(order_of(big), bytes) {
         FragmentNumberRead::Refused(n) => n as u32,
@@ -55,7 +57,7 @@ pub extern "C" fn drucenal_read_fragment_number(big: bool, bytes: &[u8], number:
 
 #[no_mangle]
 pub extern "C" fn drucenal_write_fragment_number(big: bool, number: u32, out: &mut [u8]) -> u32
-    ensures { λ r. ⌜ WritesOut fragment (orderOf big) number (now (out .entry)) r (now (out .exit)) ⌝ }
+    ensures { λ r. ⌜ Lends (writeNumber fragment (length (now (out .entry)))) (fragment .numberBytes (orderOf big) number) (now (out .entry)) r (now (out .exit)) ⌝ }
 {
     match sequence_number::wire::write_fragment_number(order_of(big), number, out) {
         Written::Refused(n) => n as u32,

@@ -15,7 +15,7 @@ use Rattle.sequence_number.specs.Outcome.{Outcome, refused, done}
 use Rattle.sequence_number.specs.Kind.{Kind}
 use Rattle.sequence_number.specs.Bitmap.{setBit}
 use Rattle.sequence_number.specs.NumberSet.{NumberSet, emptyAt}
-use Rattle.sequence_number.specs.Make.{risingTo, rising, smaller, spanned, markedTo, setFrom, makeSet}
+use Rattle.sequence_number.specs.Make.{risingTo, rising, smaller, spanned, markedTo, setFrom, setOver, makeSet}
 use Rattle.sequence_number.proofs.Split.{split, split-lt}
 use Rattle.sequence_number.proofs.KindLaws.{Lawful}
 
@@ -148,3 +148,11 @@ module _ (k : Kind) {A : Type 0} (answer : Outcome (NumberSet (k .Number)) → A
       (ap (λ (v : List ℕ). answer (done (record { base = low; count = count; words = v }))) m
       ∙ ap (λ (n : ℕ). answer (done (record { base = low; count = n; words = markedTo (k .apart low) (k .nought) (x ∷ xs) n (length (x ∷ xs)) }))) c
       ∙ (λ i. answer (done (setFrom k (l i) (getD (x ∷ xs) (last i) (k .nought)) (x ∷ xs)))))
+
+-- a refusal has its number: it is never 0
+pub make-numbered : (k : Kind) (base : k .Number) (xs : List (k .Number)) → makeSet k base xs ≡ refused 0 → ⊥
+make-numbered k base xs e = go (rising k xs) e
+  where
+    go : (b : Bool) → cond b (done (setOver k base xs)) (refused 15) ≡ refused 0 → ⊥
+    go true e = let z : _≡_ {A = ℕ} 0 1 = cc in omega arith
+    go false e = let z : _≡_ {A = ℕ} 15 0 = cc in omega arith

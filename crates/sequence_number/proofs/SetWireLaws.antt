@@ -1,6 +1,8 @@
 -- Laws of `specs/SetWire.antt`, over the kind of number: each turn and each answer of the code. Assumes nothing.
 use Prim.Native.Nat.{ℕ, zero, suc, _+_, _*_, _-_, _<_, _≤_}
 use mathlib.Core.Path.{_≡_, refl, ap, _∙_, sym, subst}
+use mathlib.Core.Bool.{Bool, true, false, cond}
+use lib.Dec.{ltb}
 use mathlib.Core.List.{List, [], _∷_, _++_}
 use native.Mathlib.Omega.{arith}
 use native.Mathlib.Decide.{decLt}
@@ -117,6 +119,17 @@ module _ (k : Kind) (o : ByteOrder) (s : List ℕ) {A : Type 0} (answer : Outcom
   set-read n p e x ws f g =
       (λ i. answer (done (record { set = record { base = f i; count = n; words = g i }; taken = bytesOf (k .size) n })))
       ∙ ap (λ (y : Outcome ℕ). answer (found (takenSet k o s) y)) (sym (ap bitCount p) ∙ e)
+
+-- a refusal has its number: it is never 0
+pub read-numbered : (k : Kind) (o : ByteOrder) (s : List ℕ) → readSet k o s ≡ refused 0 → ⊥
+read-numbered k o s e = go (ltb (length s) (k .size + 4)) (ltb 256 (wordAt o s (k .size))) (ltb (length s) (bytesOf (k .size) (wordAt o s (k .size)))) e
+  where
+    go : (a b c : Bool)
+        → found (takenSet k o s) (cond a (refused 1) (cond b (refused 2) (cond c (refused 1) (done (wordAt o s (k .size)))))) ≡ refused 0 → ⊥
+    go true b c e = let z : _≡_ {A = ℕ} 1 0 = cc in omega arith
+    go false true c e = let z : _≡_ {A = ℕ} 2 0 = cc in omega arith
+    go false false true e = let z : _≡_ {A = ℕ} 1 0 = cc in omega arith
+    go false false false e = let z : _≡_ {A = ℕ} 0 1 = cc in omega arith
 
 -- ---- writing
 

@@ -1,9 +1,10 @@
 -- `receiver::numbers::drucenal_read_fragment_number` meets its contract: the answer from below, handed on.
 -- Assumes nothing.
-use Rattle.receiver.proofs.ExportLaws.{reads-refused, reads-done}
-use Rattle.sequence_number.specs.NumberWire.{readFragment}
+use Rattle.receiver.proofs.ExportLaws.{gives-refused, gives-done}
+use Rattle.sequence_number.specs.NumberWire.{readFragment, readNumber}
 use Rattle.sequence_number.specs.Kind.{fragment}
-use mathlib.Core.Path.{ap}
+use Rattle.sequence_number.specs.declared.ByteOrder.{ByteOrder}
+use mathlib.Core.Path.{ap, sym, _∙_}
 use borrow.Author.Needs.{needs}
 use Rattle.receiver.proofs.numbers.drucenal_read_fragment_number.Statement.{statement}
 use Rattle.receiver.proofs.numbers.drucenal_read_fragment_number.Tie as tie
@@ -26,12 +27,14 @@ enum-known-x c = search needs
 returns : tie.Need-returns
 returns c =
     let a = c .before .before .before .before .before .before .args in
-    reads-refused fragment (c .before .before .before .before .order-of .ensures) (a .bytes .now) (a .number .now) (c .before .before .before .read-fragment-number .ensures) _ (ap readFragment (c .before .n .given .1))
+    gives-refused (ap (λ (o : ByteOrder). readNumber fragment o (a .bytes .now)) (c .before .before .before .before .order-of .ensures)) (a .number .now) _
+    (sym (ap readFragment (c .before .n .given .1)) ∙ c .before .before .before .read-fragment-number .ensures)
 
 returns-2 : tie.Need-returns-2
 returns-2 c =
     let a = c .before .before .before .before .before .before .args in
-    reads-done fragment (c .before .before .before .before .order-of .ensures) (a .bytes .now) (a .number .now) (c .before .before .before .read-fragment-number .ensures) _ (ap readFragment (c .before .x .given .1))
+    (gives-done (ap (λ (o : ByteOrder). readNumber fragment o (a .bytes .now)) (c .before .before .before .before .order-of .ensures)) (a .number .now) _
+    (sym (ap readFragment (c .before .x .given .1)) ∙ c .before .before .before .read-fragment-number .ensures))
 
 pub drucenal-read-fragment-number-spec : {M : Type 1} → statement M
 drucenal-read-fragment-number-spec =

@@ -1,10 +1,11 @@
 -- `receiver::numbers::drucenal_read_sequence_number` meets its contract: the answer from below, handed on.
 -- Assumes nothing.
-use mir.Facts.{toZ-ofZ}
-use Rattle.receiver.proofs.ExportLaws.{reads-refused, reads-done}
-use Rattle.sequence_number.specs.NumberWire.{readSequence}
+use Rattle.receiver.proofs.ExportLaws.{gives-refused, gives-done}
+use Rattle.sequence_number.specs.NumberWire.{readSequence, readNumber}
 use Rattle.sequence_number.specs.Kind.{sequence}
-use mathlib.Core.Path.{ap}
+use Rattle.sequence_number.specs.declared.ByteOrder.{ByteOrder}
+use mir.Facts.{toZ-ofZ}
+use mathlib.Core.Path.{ap, sym, _∙_}
 use borrow.Author.Needs.{needs}
 use Rattle.receiver.proofs.numbers.drucenal_read_sequence_number.Statement.{statement}
 use Rattle.receiver.proofs.numbers.drucenal_read_sequence_number.Tie as tie
@@ -27,13 +28,14 @@ enum-known-x c = search needs
 returns : tie.Need-returns
 returns c =
     let a = c .before .before .before .before .before .before .args in
-    reads-refused sequence (c .before .before .before .before .order-of .ensures) (a .bytes .now) (a .number .now) (c .before .before .before .read-sequence-number .ensures) _ (ap readSequence (c .before .n .given .1))
+    gives-refused (ap (λ (o : ByteOrder). readNumber sequence o (a .bytes .now)) (c .before .before .before .before .order-of .ensures)) (a .number .now) _
+    (sym (ap readSequence (c .before .n .given .1)) ∙ c .before .before .before .read-sequence-number .ensures)
 
 returns-2 : tie.Need-returns-2
 returns-2 c =
     let a = c .before .before .before .before .before .before .args in
-    rw (toZ-ofZ (record { sfits = c .known-told2 .given .0 .1 }))
-    (reads-done sequence (c .before .before .before .before .order-of .ensures) (a .bytes .now) (a .number .now) (c .before .before .before .read-sequence-number .ensures) _ (ap readSequence (c .before .x .given .1)))
+    rw (toZ-ofZ (record { sfits = c .known-told2 .given .0 .1 })) (gives-done (ap (λ (o : ByteOrder). readNumber sequence o (a .bytes .now)) (c .before .before .before .before .order-of .ensures)) (a .number .now) _
+    (sym (ap readSequence (c .before .x .given .1)) ∙ c .before .before .before .read-sequence-number .ensures))
 
 pub drucenal-read-sequence-number-spec : {M : Type 1} → statement M
 drucenal-read-sequence-number-spec =

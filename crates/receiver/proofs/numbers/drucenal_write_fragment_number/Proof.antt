@@ -1,8 +1,10 @@
 -- `receiver::numbers::drucenal_write_fragment_number` meets its contract: the answer from below, handed on.
 -- Assumes nothing.
-use Rattle.receiver.proofs.ExportLaws.{writes-refused, writes-done}
+use Rattle.receiver.proofs.ExportLaws.{lends-refused, lends-done}
+use Rattle.sequence_number.specs.NumberWire.{wrote}
 use Rattle.sequence_number.specs.Kind.{fragment}
-use mathlib.Core.Path.{refl}
+use Rattle.sequence_number.specs.declared.ByteOrder.{ByteOrder}
+use mathlib.Core.Path.{refl, ap, sym, _∙_}
 use borrow.Author.Needs.{needs}
 use Rattle.receiver.proofs.numbers.drucenal_write_fragment_number.Statement.{statement}
 use Rattle.receiver.proofs.numbers.drucenal_write_fragment_number.Tie as tie
@@ -26,13 +28,17 @@ same-length : tie.Need-same-length
 same-length c = search needs
 
 returns : tie.Need-returns
-returns c = writes-refused fragment (c .before .before .before .before .before .before .before .order-of .ensures) refl _ _ _ (c .before .before .before .before .before .write-fragment-number .ensures) _ (c .before .n .given .1)
+returns c =
+    let w = c .before .before .before .before .before .write-fragment-number .ensures in
+    lends-refused refl (ap (λ (o : ByteOrder). fragment .numberBytes o (c .before .before .before .before .before .before .before .before .before .args .number)) (c .before .before .before .before .before .before .before .order-of .ensures)) (c .before .before .before .before .before .before .before .before .before .args .out .now) _ (w .bytes) _ (sym (ap wrote (c .before .n .given .1)) ∙ w .answer)
 
 same-length-2 : tie.Need-same-length-2
 same-length-2 c = search needs
 
 returns-2 : tie.Need-returns-2
-returns-2 c = writes-done fragment (c .before .before .before .before .before .before .order-of .ensures) refl _ _ _ (c .before .before .before .before .write-fragment-number .ensures) _ (c .enum-told .given .1)
+returns-2 c =
+    let w = c .before .before .before .before .write-fragment-number .ensures in
+    lends-done refl (ap (λ (o : ByteOrder). fragment .numberBytes o (c .before .before .before .before .before .before .before .before .args .number)) (c .before .before .before .before .before .before .order-of .ensures)) (c .before .before .before .before .before .before .before .before .args .out .now) _ (w .bytes) _ (sym (ap wrote (c .enum-told .given .1)) ∙ w .answer)
 
 pub drucenal-write-fragment-number-spec : {M : Type 1} → statement M
 drucenal-write-fragment-number-spec =

@@ -1,0 +1,43 @@
+-- `receiver::sets::drucenal_read_fragment_number_set` meets its contract: the answer from below, handed on.
+-- Assumes nothing.
+use Prim.Native.Nat.{ℕ}
+use Rattle.receiver.proofs.SetAnswers.{fragment-read-number}
+use Rattle.receiver.proofs.ExportLaws.{struct-refused, struct-done}
+use Rattle.receiver.specs.Exports.{orderOf, takenOf}
+use Rattle.sequence_number.proofs.SetWireLaws.{read-numbered}
+use Rattle.sequence_number.specs.SetWire.{Taken, readSet, fragmentSetRead}
+use Rattle.sequence_number.specs.Kind.{fragment}
+use Rattle.sequence_number.specs.declared.set.FragmentNumberSetRead.{FragmentNumberSetRead}
+use Rattle.sequence_number.specs.declared.ByteOrder.{ByteOrder}
+use mathlib.Core.Path.{refl, ap, _∙_}
+use borrow.Author.Needs.{needs}
+use Rattle.receiver.proofs.sets.drucenal_read_fragment_number_set.Statement.{statement}
+use Rattle.receiver.proofs.sets.drucenal_read_fragment_number_set.Tie as tie
+
+order-of-requires : tie.Need-order-of-requires
+order-of-requires c κs = search needs
+
+read-from-requires : tie.Need-read-from-requires
+read-from-requires c κs = search needs
+
+cast-result : tie.Need-cast-result
+cast-result c = search needs
+
+returns : tie.Need-returns
+returns c =
+    let a = c .before .before .before .before .args in
+    struct-refused fragmentSetRead (λ (r : FragmentNumberSetRead). r .refusal) fragment-read-number (takenOf (a .base .now) (a .count .now) (a .words .now) (a .taken .now))
+    (readSet fragment (orderOf (a .big)) (a .bytes .now)) (c .before .read-from .result)
+    (c .before .read-from .ensures ∙ ap (λ (o : ByteOrder). fragmentSetRead (readSet fragment o (a .bytes .now))) (c .before .before .order-of .ensures)) (c .if1 .taken)
+
+returns-2 : tie.Need-returns-2
+returns-2 c =
+    let a = c .before .before .before .before .before .before .args in
+    (struct-done fragmentSetRead (λ (r : FragmentNumberSetRead). r .refusal) fragment-read-number (takenOf (a .base .now) (a .count .now) (a .words .now) (a .taken .now))
+    (λ (r : FragmentNumberSetRead). takenOf (r .set .base) (r .set .count) (r .set .words) (r .taken)) (λ (t : Taken ℕ). refl)
+    (readSet fragment (orderOf (a .big)) (a .bytes .now)) (read-numbered fragment (orderOf (a .big)) (a .bytes .now)) (c .before .before .before .read-from .result)
+    (c .before .before .before .read-from .ensures ∙ ap (λ (o : ByteOrder). fragmentSetRead (readSet fragment o (a .bytes .now))) (c .before .before .before .before .order-of .ensures)) (c .before .before .if1 .left))
+
+pub drucenal-read-fragment-number-set-spec : {M : Type 1} → statement M
+drucenal-read-fragment-number-set-spec =
+    tie.close (tie.spec order-of-requires read-from-requires cast-result returns returns-2)
