@@ -14,6 +14,7 @@ const LARGEST_PLACE: i64 = 65_536;
 
 pub fn run(checker: &mut Checker, random: &mut Random, cases: Option<usize>) -> Result<(), Stopped> {
     checker.lines(&set_ups())?;
+    every_refusal(checker)?;
     let mut fragments = 0;
     while fragments < cases.unwrap_or(CASES) {
         let script = chain(random);
@@ -33,6 +34,31 @@ fn set_ups() -> Vec<Line> {
         }
     }
     lines
+}
+
+/// Every combination of good and bad arguments, where one sample is open and where none is.
+fn every_refusal(checker: &mut Checker) -> Result<(), Stopped> {
+    for (unit, place_size) in [(4, 2), (4, 8), (4, 1030), (1, 300)] {
+        let new = format!("asm.new A {unit} reliable {place_size}").into_bytes();
+        let first = format!("asm.frag A 7 5 {unit} {} 1 1 -", 2 * unit).into_bytes();
+        let whole = PLACES * place_size;
+        let data_sizes = [unit - 1, unit, 2 * unit, place_size + 1, 256 * unit, 256 * unit + 1];
+        for (number, data_size) in [0, 5, 6, i64::MAX].into_iter().flat_map(|n| data_sizes.map(|d| (n, d))) {
+            for (size, area) in [
+                (unit, whole),
+                (unit + 1, whole),
+                (unit, whole - 1),
+                (unit + 1, whole - 1),
+            ] {
+                for (start, count) in [0, 1, 2, 3].into_iter().flat_map(|k| [0, 1, 2, 257].map(|n| (k, n))) {
+                    let arguments = format!("{number} {size} {data_size} {start} {count} 0102030405 area={area}");
+                    let fragment = format!("asm.frag A 8 {arguments}").into_bytes();
+                    checker.case(&[new.clone(), first.clone(), fragment, b"asm.dump A".to_vec()])?;
+                }
+            }
+        }
+    }
+    Ok(())
 }
 
 /// A chain in the making: the oracle goes along, so that fragments can be aimed at what is in assembly.
@@ -271,6 +297,7 @@ fn chain(random: &mut Random) -> Vec<Line> {
     let place_size = match random.below(6) {
         0 => unit + random.between(-1, 1),
         1 => 2 * unit + random.between(-1, 1),
+        2 if random.once_in(4) => random.between(1, unit),
         2 if large || unit < 9 => MOST_FRAGMENTS * unit + random.between(-1, 9),
         _ => random.between(unit, 12 * unit),
     };

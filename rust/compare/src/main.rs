@@ -25,7 +25,8 @@ const USAGE: &str = "usage: compare num|sets|proxy|asm|replay|all [--seed S] [--
                [--programs CALLS ORACLE] [--replay PROGRAM] [--self]
     --programs   feeds the two programs instead of calling both in this process
     --replay     the port's replay program
-    --self       the oracle against itself, to try the generators";
+    --self       the oracle against itself, to try the generators
+Fewer cases than the default leave out the long exhaustive parts of sets and proxy.";
 
 /// What the command line asks for.
 struct Asked {
@@ -77,8 +78,8 @@ fn sides(asked: &Asked, part: &str) -> std::io::Result<(Box<dyn Side>, Box<dyn S
     })
 }
 
-/// Runs one part; whether anything was compared at all.
-fn run(asked: &Asked, part: &str) -> Result<bool, Stopped> {
+/// Runs one part.
+fn run(asked: &Asked, part: &str) -> Result<(), Stopped> {
     let (port, oracle) = sides(asked, part).map_err(|error| Stopped::Broken(error.to_string()))?;
     let mut checker = Checker::new(part, port, oracle);
     let mut random = Random::new(asked.seed);
@@ -90,7 +91,11 @@ fn run(asked: &Asked, part: &str) -> Result<bool, Stopped> {
         _ => replay::run,
     };
     run(&mut checker, &mut random, asked.cases)?;
-    Ok(checker.close())
+    if checker.tally.compared == 0 {
+        return Err(Stopped::NotHere);
+    }
+    checker.close();
+    Ok(())
 }
 
 fn main() -> ExitCode {
@@ -113,7 +118,8 @@ fn main() -> ExitCode {
     let mut any = false;
     for part in parts {
         match run(&asked, part) {
-            Ok(compared) => any |= compared,
+            Ok(()) => any = true,
+            Err(stopped @ Stopped::NotHere) => println!("{part}: {stopped}"),
             Err(stopped) => {
                 println!("{part}: {stopped}");
                 return ExitCode::FAILURE;

@@ -25,7 +25,5 @@ pub fn area_byte(i: usize) -> u8 {
 
 /// An area as a command lends it: never shorter than it was, new bytes hold what an area holds at first.
 pub fn grow_area(area: &mut Vec<u8>, length: usize) {
-    for i in area.len()..length {
-        area.push(area_byte(i));
-    }
+    area.extend((area.len()..length).map(area_byte));
 }
