@@ -4,7 +4,7 @@ use std::fmt;
 use std::time::{Duration, Instant};
 
 use crate::model;
-use crate::side::{Line, Side};
+use crate::side::{Line, Side, ENDED};
 use crate::tally::Tally;
 
 /// Why a run ended early.
@@ -98,6 +98,12 @@ impl Checker {
         self.progress();
         if self.tally.compared == 0 && self.tally.skipped > ENOUGH_SKIPPED {
             return Err(Stopped::NotHere);
+        }
+        if port.iter().chain(&oracle).any(|answer| answer == ENDED) {
+            return Err(Stopped::Broken(format!(
+                "a program ended in this script:\n{}",
+                text(script)
+            )));
         }
         for (at, line) in script.iter().enumerate() {
             match judge(script, at, &port[at], &oracle[at]) {

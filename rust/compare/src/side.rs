@@ -9,6 +9,9 @@ use protocol::{answer, Port};
 /// A line without its line feed.
 pub type Line = Vec<u8>;
 
+/// The answer of a program that is no longer there.
+pub const ENDED: &str = "err the program has ended";
+
 pub trait Side {
     /// One answer a line.
     fn run(&mut self, script: &[Line]) -> Vec<String>;
@@ -69,7 +72,7 @@ impl Side for Program {
             let mut line = String::new();
             match self.answers.read_line(&mut line) {
                 Ok(length) if length > 0 => line.trim_end_matches('\n').to_string(),
-                _ => "err the program has ended".to_string(),
+                _ => ENDED.to_string(),
             }
         };
         (0..script.len()).map(&mut answer).collect()
