@@ -11,3 +11,7 @@ pub mod SetWireLaws
 pub mod WalkLaws
 pub mod FitLaws
 pub mod MakeLaws
+pub mod MemberLaws
+pub mod RoundTrip
+pub mod KnownValues
+pub mod Determined
