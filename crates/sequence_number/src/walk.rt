@@ -22,18 +22,18 @@ fn survey(words: [u32; 8], count: u32, fit: u32) -> Walked
     requires { ⌜ count ≤ 256 ⌝ }
     ensures { λ r. ⌜ walked r ≡ cond (anyPast (λ i. ltb i fit) (positions words count)) (refused 4) (done (length (positions words count))) ⌝ }
 {
-    let mut n: usize = 0;
+    let mut many: usize = 0;
     let mut i: u32 = 0;
     while i < count {
         if has(words, i) {
             if fit <= i {
                 return Walked::Refused(4);
             }
-            n += 1;
+            many += 1;
         }
         i += 1;
     }
-    Walked::Listed(n)
+    Walked::Listed(many)
 }
 
 // The first position, at most 256, that stands for no sequence number.

@@ -17,10 +17,10 @@ use Rattle.sequence_number.proofs.walk.survey.Statement.{statement}
 use Rattle.sequence_number.proofs.walk.survey.Tie as tie
 
 abbrev Inv-loop : tie.InvT-loop
-Inv-loop words count fit n₀ i₀ n i = (i ≤ count) × (n ≡ length (positions words i)) × (anyPast (λ (k : ℕ). ltb k fit) (positions words i) ≡ false)
+Inv-loop words count fit many₀ i₀ many i = (i ≤ count) × (many ≡ length (positions words i)) × (anyPast (λ (k : ℕ). ltb k fit) (positions words i) ≡ false)
 
 abbrev μ-loop : tie.MeasureT-loop
-μ-loop words count fit n₀ i₀ n i = count - i
+μ-loop words count fit many₀ i₀ many i = count - i
 
 loop-holds : tie.Need-loop-holds Inv-loop μ-loop
 loop-holds c = search needs
@@ -36,8 +36,8 @@ returns c =
     let e = sym (h .has .ensures) ∙ c .before .if1 .taken in
     survey-past (λ (k : ℕ). ltb k (a .fit)) (a .words) (l .i) (a .count) (h .before .loop-test .taken) e (le-ltb (l .i) (a .fit) (c .if2 .taken))
 
-add-n : tie.Need-add-n Inv-loop μ-loop
-add-n c = omega (arith, length-positions (c .before .before .before .before .before .args .words) (c .before .before .before .before .loop .i))
+add-many : tie.Need-add-many Inv-loop μ-loop
+add-many c = omega (arith, length-positions (c .before .before .before .before .before .args .words) (c .before .before .before .before .loop .i))
 
 add-i : tie.Need-add-i Inv-loop μ-loop
 add-i c = search needs
@@ -70,7 +70,7 @@ returns-2 c =
     let l = c .before .loop in
     let a = c .before .before .args in
     let e : l .i ≡ a .count = omega arith in
-    survey-done (λ (k : ℕ). ltb k (a .fit)) (a .words) (l .i) (a .count) (l .n) e (l .inv .1) (l .inv .2)
+    survey-done (λ (k : ℕ). ltb k (a .fit)) (a .words) (l .i) (a .count) (l .many) e (l .inv .1) (l .inv .2)
 
 pub survey-spec : {M : Type 1} → statement M
 survey-spec =
@@ -81,7 +81,7 @@ survey-spec =
     loop-holds
     has-requires
     returns
-    add-n
+    add-many
     add-i
     loop-less
     loop-again
