@@ -1,0 +1,11 @@
+pub mod TableLaws
+pub mod MarksLaws
+pub mod FillLaws
+pub mod AreaLaws
+pub mod WordsLaws
+pub mod RowLaws
+pub mod FragmentsLaws
+pub mod RefusalLaws
+pub mod RulesLaws
+pub mod CallLaws
+pub mod MissingLaws

@@ -1,0 +1,41 @@
+-- What the public calls promise of the lent words: the definitions' outcome of the state that the words stand for, and that the words keep their
+-- rules. With `Good` a state determines its words. Assumes nothing.
+use Prim.Native.Nat.{ℕ}
+use mathlib.Core.Path.{_≡_}
+use mathlib.Core.Bool.{Bool}
+use mathlib.Core.List.{List}
+use lib.ListN.{length, take}
+use lib.IntN.{ℤ}
+use Rattle.fragment_assembler.specs.declared.Answer.{Answer}
+use Rattle.fragment_assembler.specs.declared.Start.{Start}
+use Rattle.fragment_assembler.specs.declared.Cleaned.{Cleaned}
+use Rattle.fragment_assembler.specs.declared.Listing.{Listing}
+use Rattle.fragment_assembler.specs.Refusal.{Call}
+use Rattle.fragment_assembler.specs.Call.{fateOf, outcome, fragment}
+use Rattle.fragment_assembler.specs.Words.{stateOf}
+use Rattle.fragment_assembler.specs.Rules.{Good}
+use Rattle.fragment_assembler.specs.SetUp.{refusalOf, setUpRefusal, setUpWords}
+use Rattle.fragment_assembler.specs.Clean.{clean, cleaning}
+use Rattle.fragment_assembler.specs.Missing.{missed, missingFor}
+use Rattle.fragment_assembler.specs.Clean as cleans
+use Rattle.fragment_assembler.specs.Missing as misses
+
+-- set-up: the refusal, the words, and a record by the rules
+pub record SetsUp (w : List ℕ) (f : ℕ) (reliable : Bool) (p : ℕ) (r : Start) (w′ : List ℕ) : Type 0 where
+  pub refusal : refusalOf r ≡ setUpRefusal f p (length w)
+  pub words : w′ ≡ setUpWords f reliable p w
+  pub good : refusalOf r ≡ 0 → Good (take 906 w′)
+
+-- a fragment call: answer, state and area in one equation
+pub record Does (w area : List ℕ) (c : Call) (r : Answer) (w′ after : List ℕ) : Type 0 where
+  pub same : outcome (fateOf r) (stateOf w′) after ≡ fragment (stateOf w) area c
+  pub good : Good w′
+
+-- a cleaning: answer, state and lent list in one equation
+pub record Cleans (w : List ℕ) (cutoff : ℕ) (out : List ℤ) (r : Cleaned) (w′ : List ℕ) (after : List ℤ) : Type 0 where
+  pub same : cleaning (cleans.toldOf r) (stateOf w′) after ≡ clean (stateOf w) cutoff out
+  pub good : Good w′
+
+-- the missing fragments: answer and lent list in one equation
+abbrev pub Misses : List ℕ → ℕ → List ℕ → Listing → List ℕ → Type 0
+Misses w n out r after = missed (misses.toldOf r) after ≡ missingFor (stateOf w) n out
