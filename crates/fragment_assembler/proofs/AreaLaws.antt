@@ -6,6 +6,7 @@ use mathlib.Core.Path.{_≡_, sym, ap, _∙_}
 use mathlib.Core.List.{List, _++_, append-assoc}
 use lib.ListN.{length, getD, take, drop, replicate, length-take, length-drop, length-replicate, List·getD-append}
 use lib.Seq.{paste, take-all, length-paste-head, length-take-le, getD-take, getD-drop, getD-append-add, drop-drop}
+use Rattle.fragment_assembler.proofs.WordsLaws.{back}
 
 module _ (d : List ℕ) (i : ℕ) (s : List ℕ) (n : ℕ) (hd : i + n ≤ length d) (hs : n ≤ length s) where
   private-head : length (take i d ++ take n s) ≡ i + n

@@ -8,4 +8,8 @@ pub mod FragmentsLaws
 pub mod RefusalLaws
 pub mod RulesLaws
 pub mod CallLaws
+pub mod InnerLaws
+pub mod SetUpLaws
+pub mod ViewLaws
+pub mod CleanLaws
 pub mod MissingLaws

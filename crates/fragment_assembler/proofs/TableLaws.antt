@@ -1,5 +1,5 @@
 -- Laws of `specs/Table.antt`. Assumes nothing.
-use Prim.Native.Nat.{ℕ, zero, suc, _-_, _≤_, _<_, min, max}
+use Prim.Native.Nat.{ℕ, zero, suc, _+_, _-_, _≤_, _<_, min, max}
 use native.Mathlib.Omega.{arith}
 use native.Mathlib.Nat.{not-suc-le-zero, le-of-suc-le-suc}
 use mathlib.Core.Path.{_≡_, refl, sym, ap, subst, _∙_}
@@ -9,10 +9,10 @@ use mathlib.Core.List.{List, [], _∷_}
 use lib.ListN.{length, getD, set, take, drop, length-drop, drop-of-length-le}
 use lib.Seq.{drop-cons}
 use lib.Dec.{ltb, eqb}
-use borrow.Author.Tests.{ltb-true, ltb-false, eqb-true, eqb-false, lt-ltb, le-ltb}
+use borrow.Author.Tests.{ltb-true, ltb-false, eqb-true, eqb-false, lt-ltb, le-ltb, eq-eqb, ne-eqb}
 use Rattle.sequence_number.proofs.Split.{split, split-lt}
-use Rattle.fragment_assembler.specs.State.{Place, at}
-use Rattle.fragment_assembler.specs.Table.{find, highestOf, howMany, count, isTaken, lower, lowestOf}
+use Rattle.fragment_assembler.specs.State.{Place, at, free}
+use Rattle.fragment_assembler.specs.Table.{find, has, highestOf, howMany, count, isTaken, lower, lowestOf, inAssembly}
 
 pub find-le : (n : ℕ) (ps : List Place) → find n ps ≤ length ps
 find-le n [] = omega arith
@@ -101,12 +101,36 @@ highest-found ps h =
 
 -- ---- how many
 
+pub drop-pred : {A : Type 0} (l : List A) (i : ℕ) (d : A) → 0 < i → i ≤ length l → drop (i - 1) l ≡ getD l (i - 1) d ∷ drop i l
+drop-pred l i d h k =
+    let e : suc (i - 1) ≡ i = omega arith in
+    drop-cons l (i - 1) d (omega arith) ∙ ap (λ (n : ℕ). getD l (i - 1) d ∷ drop n l) e
+
 module _ (test : Place → Bool) where
   pub howMany-le : (ps : List Place) → howMany test ps ≤ length ps
   howMany-le [] = omega arith
   howMany-le (p ∷ ps) =
       let ih = howMany-le ps in
       split (test p) (λ e. rw e (omega arith)) (λ e. rw e (omega arith))
+
+  -- one place more, from the end
+  pub howMany-down : (ps : List Place) (i : ℕ) → 0 < i → i ≤ length ps
+      → howMany test (drop (i - 1) ps) ≡ cond (test (at ps (i - 1))) (suc (howMany test (drop i ps))) (howMany test (drop i ps))
+  howMany-down ps i h l = ap (howMany test) (drop-pred ps i free h l)
+
+  pub howMany-yes : (ps : List Place) (i n : ℕ) → 0 < i → i ≤ length ps → n ≡ howMany test (drop i ps) → test (at ps (i - 1)) ≡ true
+      → n + 1 ≡ howMany test (drop (i - 1) ps)
+  howMany-yes ps i n h l e t =
+      let d : howMany test (drop (i - 1) ps) ≡ suc (howMany test (drop i ps)) = howMany-down ps i h l ∙ rw t in
+      omega arith
+
+  pub howMany-no : (ps : List Place) (i n : ℕ) → 0 < i → i ≤ length ps → n ≡ howMany test (drop i ps) → test (at ps (i - 1)) ≡ false
+      → n ≡ howMany test (drop (i - 1) ps)
+  howMany-no ps i n h l e t = e ∙ sym (howMany-down ps i h l ∙ rw t)
+
+  -- what is counted of a part fits
+  pub howMany-part : (ps : List Place) (i n : ℕ) → n ≡ howMany test (drop i ps) → n + i ≤ length ps + i
+  howMany-part ps i n e = omega (arith, e, howMany-le (drop i ps), length-drop i ps)
 
   pub howMany-all : (ps : List Place) → ((j : ℕ) → j < length ps → test (at ps j) ≡ true) → howMany test ps ≡ length ps
   howMany-all [] h = refl
@@ -213,3 +237,12 @@ pub lowest-last : (ps : List Place) (i : ℕ) (d : Place) → length ps ≡ suc 
 lowest-last ps i d h =
     let z : drop (suc i) ps ≡ [] = drop-of-length-le ps {i = suc i} (omega arith) in
     ap lowestOf (drop-cons ps i d (omega arith)) ∙ ap (λ (l : List Place). lowestOf (getD ps i d ∷ l)) z
+
+-- ---- the query
+
+pub query-no : (ps : List Place) (n : ℕ) → n ≡ 0 → false ≡ inAssembly ps n
+query-no ps n e = rw (eq-eqb n 0 e)
+
+pub query-yes : (ps : List Place) (n k : ℕ) → length ps ≡ 129 → (n ≡ 0 → ⊥) → k ≡ find n ps → ltb k 129 ≡ inAssembly ps n
+unfolding has
+query-yes ps n k l z e = rw (ne-eqb n 0 z) (ap (λ (j : ℕ). ltb j 129) e ∙ ap (ltb (find n ps)) (sym l))

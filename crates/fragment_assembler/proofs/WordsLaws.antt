@@ -4,6 +4,7 @@ use Prim.Native.Nat.{ℕ, zero, suc, _+_, _*_, _-_, _≤_, _<_}
 use native.Mathlib.Omega.{arith}
 use native.Mathlib.Nat.{not-suc-le-zero, le-of-suc-le-suc}
 use mathlib.Core.Path.{_≡_, refl, sym, ap, _∙_}
+use mathlib.Core.Bool.{Bool, true, false}
 use mathlib.Core.List.{List, [], _∷_, _++_, append-assoc}
 use lib.ListN.{length, getD, set, take, drop, length-append, length-take, length-drop, take-append-drop}
 use lib.Seq.{length-take-le, getD-take, getD-drop, drop-drop, take-append-le, take-at, drop-at, take-add, take-take}
@@ -11,7 +12,7 @@ use lib.Dec.{eqb}
 use borrow.Author.Tests.{eqb-true, eqb-false}
 use Rattle.sequence_number.proofs.Split.{split}
 use Rattle.fragment_assembler.specs.Inner.{Became}
-use Rattle.fragment_assembler.specs.State.{at, Place}
+use Rattle.fragment_assembler.specs.State.{at, Place, Assembler, withPlaces}
 use Rattle.fragment_assembler.specs.Words.{rowsOf, placeOf, placesOf, rowOf, tableOf, bit, recordOf, stateOf}
 
 pub length-rows : (n : ℕ) (l : List ℕ) → length (rowsOf n l) ≡ n
@@ -102,6 +103,11 @@ module _ (w : List ℕ) (i : ℕ) (h : i < 129) where
       drop-take (a ∷ (b ∷ [])) = refl
       drop-take (a ∷ (b ∷ (c ∷ l))) = refl
 
+  pub marks-long : length w ≡ 906 → length (take ((3 + 7 * i + 3 + 4) - (3 + 7 * i + 3)) (drop (3 + 7 * i + 3) w)) ≡ 4
+  marks-long e =
+      let n : (3 + 7 * i + 3 + 4) - (3 + 7 * i + 3) ≡ 4 = omega arith in
+      omega (arith, n, length-take ((3 + 7 * i + 3 + 4) - (3 + 7 * i + 3)) (drop (3 + 7 * i + 3) w), length-drop (3 + 7 * i + 3) w)
+
   -- row i of the record, lent and back as ys
   pub lent-back : (ys : List ℕ) → length w ≡ 906 → length ys ≡ 7
       → Became w (set (placesOf w) i (placeOf ys)) (take (3 + 7 * i) w ++ (ys ++ drop ((3 + 7 * i + 7) - (3 + 7 * i)) (drop (3 + 7 * i) w)))
@@ -175,3 +181,37 @@ round (a ∷ (b ∷ [])) h m = absurd (omega arith)
 round (a ∷ (b ∷ (c ∷ l))) h m =
     ap (λ (x : ℕ). a ∷ (b ∷ (x ∷ tableOf (rowsOf 129 l)))) (bit-round c m)
     ∙ ap (λ (x : List ℕ). a ∷ (b ∷ (c ∷ x))) (table-round 129 l (omega arith))
+
+pub bit-le : (b : Bool) → bit b ≤ 1
+bit-le true = omega arith
+bit-le false = omega arith
+
+pub mode-word : (a : Assembler) → getD (recordOf a) 2 0 ≡ bit (a .reliable)
+unfolding recordOf
+mode-word a = refl
+
+-- ---- a state is what its record stands for
+
+rows-back : (n : ℕ) (ps : List Place) → length ps ≡ n → ((i : ℕ) → length (at ps i .marks) ≡ 4) → rowsOf n (tableOf ps) ≡ ps
+rows-back zero [] e h = refl
+rows-back zero (p ∷ ps) e h = absurd (omega arith)
+rows-back (suc n) [] e h = absurd (omega arith)
+rows-back (suc n) (p ∷ ps) e h =
+    let s : length (rowOf p) ≡ 7 = omega (arith, h 0) in
+    ap (λ (l : List ℕ). placeOf l ∷ rowsOf n (drop 7 (rowOf p ++ tableOf ps))) (take-at (rowOf p) (tableOf ps) 7 s)
+    ∙ ap (λ (l : List ℕ). p ∷ rowsOf n l) (drop-at (rowOf p) (tableOf ps) 7 s)
+    ∙ ap (λ (l : List Place). p ∷ l) (rows-back n ps (omega arith) (λ i. h (suc i)))
+
+pub length-table : (ps : List Place) → ((i : ℕ) → length (at ps i .marks) ≡ 4) → length (tableOf ps) ≡ 7 * length ps
+length-table [] h = refl
+length-table (p ∷ ps) h = omega (arith, length-append (rowOf p) (tableOf ps), h 0, length-table ps (λ i. h (suc i)))
+
+bit-back : (b : Bool) → eqb (bit b) 1 ≡ b
+bit-back true = refl
+bit-back false = refl
+
+pub back : (a : Assembler) → length (a .places) ≡ 129 → ((i : ℕ) → length (at (a .places) i .marks) ≡ 4) → stateOf (recordOf a) ≡ a
+unfolding recordOf placesOf
+back a e h =
+    ap (λ (b : Bool). record { unit = a .unit; room = a .room; reliable = b; places = rowsOf 129 (tableOf (a .places)) }) (bit-back (a .reliable))
+    ∙ ap (withPlaces a) (rows-back 129 (a .places) e h)

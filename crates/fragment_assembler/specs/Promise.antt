@@ -37,5 +37,5 @@ pub record Cleans (w : List ℕ) (cutoff : ℕ) (out : List ℤ) (r : Cleaned) (
   pub good : Good w′
 
 -- the missing fragments: answer and lent list in one equation
-abbrev pub Misses : List ℕ → ℕ → List ℕ → Listing → List ℕ → Type 0
-Misses w n out r after = missed (misses.toldOf r) after ≡ missingFor (stateOf w) n out
+pub record Misses (w : List ℕ) (n : ℕ) (out : List ℕ) (r : Listing) (after : List ℕ) : Type 0 where
+  pub same : missed (misses.toldOf r) after ≡ missingFor (stateOf w) n out
