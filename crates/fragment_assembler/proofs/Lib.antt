@@ -13,3 +13,7 @@ pub mod SetUpLaws
 pub mod ViewLaws
 pub mod CleanLaws
 pub mod MissingLaws
+pub mod PlacingLaws
+pub mod Promises
+pub mod Determined
+pub mod KnownValues

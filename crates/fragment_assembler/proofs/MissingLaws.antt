@@ -1,22 +1,24 @@
 -- Laws of `specs/Missing.antt`. Assumes nothing.
 use Prim.Native.Nat.{ℕ, zero, suc, _+_, _*_, _-_, _≤_, _<_}
 use native.Mathlib.Omega.{arith}
+use native.Mathlib.Nat.{not-suc-le-zero}
 use mathlib.Core.Path.{_≡_, refl, sym, ap, subst, _∙_}
 use mathlib.Core.Bool.{true, false, cond}
-use mathlib.Core.List.{List, [], _∷_, _++_, append-nil}
-use lib.ListN.{length, getD, set, take, drop, length-append}
-use lib.Seq.{drop-cons, set-at, append-snoc}
+use mathlib.Core.Logic.{⊎-elim}
+use mathlib.Core.List.{List, [], _∷_, _++_, append-nil, List·Memᴰ, List·Memᴰ·head, List·Memᴰ·not-nil, Memᴰ·append-left, Memᴰ·append-right, List·Memᴰ·append-cases, List·Memᴰ·eq-of-singleton}
+use lib.ListN.{length, getD, set, take, drop, length-append, List·getD-append}
+use lib.Seq.{getD-append-seam, drop-cons, set-at, append-snoc}
 use lib.Dec.{leb}
 use borrow.Author.Tests.{leb-true, leb-false, lt-ltb, le-ltb, eq-eqb, ne-eqb}
 use Rattle.sequence_number.specs.Lent.{over}
-use Rattle.sequence_number.proofs.Split.{split}
+use Rattle.sequence_number.proofs.Split.{split, split-lt}
 use Rattle.fragment_assembler.proofs.WordsLaws.{length-places, marks-at, size-at}
 use Rattle.fragment_assembler.specs.Fragments.{fragments}
-use Rattle.fragment_assembler.specs.Listing.{wrote}
+use Rattle.fragment_assembler.specs.Listing.{wrote, refused}
 use Rattle.fragment_assembler.specs.Marks.{marked}
 use Rattle.fragment_assembler.specs.Missing.{gaps, missing, missingFor, missed}
 use Rattle.fragment_assembler.specs.Promise.{Misses}
-use Rattle.fragment_assembler.specs.State.{at}
+use Rattle.fragment_assembler.specs.State.{at, Assembler, Place}
 use Rattle.fragment_assembler.specs.Table.{inAssembly, find, has}
 use Rattle.fragment_assembler.specs.Words.{placesOf, stateOf}
 use Rattle.fragment_assembler.specs.declared.Listing.{Listing}
@@ -93,3 +95,104 @@ module _ (w : List ℕ) (n k f : ℕ) (z : n ≡ 0 → ⊥) (e : k ≡ find n (p
               (ap (λ (j : ℕ). missed (wrote j) after) (ec ∙ ap length (sym missing-are))
               ∙ ap (missed (wrote (length (missing (stateOf w) n)))) (ea ∙ ap (λ (g : List ℕ). over g out) (sym missing-are)));
         }
+
+pub missing-cases : (a : Assembler) (n : ℕ) (out : List ℕ)
+    → (length out < length (missing a n) → missingFor a n out ≡ missed (refused 3) out)
+    × (length (missing a n) ≤ length out → missingFor a n out ≡ missed (wrote (length (missing a n))) (over (missing a n) out))
+unfolding missingFor
+missing-cases a n out = (λ h. rw (lt-ltb (length out) (length (missing a n)) h), λ h. rw (le-ltb (length out) (length (missing a n)) h))
+
+-- ---- the list that is written
+
+pub missing-absent : (a : Assembler) (n : ℕ) → inAssembly (a .places) n ≡ false → missing a n ≡ []
+unfolding missing
+missing-absent a n e = rw e
+
+missing-present : (a : Assembler) (n : ℕ) → inAssembly (a .places) n ≡ true
+    → missing a n ≡ gaps (at (a .places) (find n (a .places)) .marks) (fragments (at (a .places) (find n (a .places)) .size) (a .unit))
+unfolding missing
+missing-present a n e = rw e
+
+gaps-in : (m : List ℕ) (f k : ℕ) → List·Memᴰ k (gaps m f) → (0 < k) × (k ≤ f) × (marked m (k - 1) ≡ false)
+gaps-in m zero k h = absurd (List·Memᴰ·not-nil h)
+gaps-in m (suc f) k h =
+    split (marked m f)
+    (λ t. let r = gaps-in m f k (subst (List·Memᴰ k) (gaps-marked m f t) h) in (r .0, omega (arith, r .1), r .2))
+    (λ t.
+    ⊎-elim
+    (λ x. let r = gaps-in m f k x in (r .0, omega (arith, r .1), r .2))
+    (λ x.
+    let q : k ≡ suc f = List·Memᴰ·eq-of-singleton x in
+    let p : k - 1 ≡ f = omega arith in
+    (omega arith, omega arith, ap (marked m) p ∙ t))
+    (List·Memᴰ·append-cases (gaps m f) (subst (List·Memᴰ k) (gaps-gap m f t) h)))
+
+gaps-all : (m : List ℕ) (f k : ℕ) → 0 < k → k ≤ f → marked m (k - 1) ≡ false → List·Memᴰ k (gaps m f)
+gaps-all m zero k p l e = absurd (omega arith)
+gaps-all m (suc f) k p l e =
+    ⊎-elim
+    (λ x. Memᴰ·append-left (cond (marked m f) [] (suc f ∷ [])) (gaps-all m f k p (omega arith) e))
+    (λ x.
+    let q : k ≡ suc f = omega arith in
+    let r : f ≡ k - 1 = omega arith in
+    let u : marked m f ≡ false = ap (marked m) r ∙ e in
+    subst (List·Memᴰ k) (sym (gaps-gap m f u)) (Memᴰ·append-right (gaps m f) (List·Memᴰ·head q)))
+    (split-lt k (suc f))
+
+-- the gaps among the first f are at most f
+gaps-last : (m : List ℕ) (f i : ℕ) → i < length (gaps m f) → getD (gaps m f) i 0 ≤ f
+gaps-last m zero i h = absurd (not-suc-le-zero h)
+gaps-last m (suc f) i h =
+    split (marked m f)
+    (λ t. let e = gaps-marked m f t in omega (arith, ap (λ (l : List ℕ). getD l i 0) e, gaps-last m f i (omega (arith, ap length e))))
+    (λ t.
+    let e = gaps-gap m f t in
+    ⊎-elim
+    (λ l. omega (arith, ap (λ (l : List ℕ). getD l i 0) e ∙ List·getD-append (gaps m f) (suc f ∷ []) 0 i l, gaps-last m f i l))
+    (λ l.
+    let q : i ≡ length (gaps m f) = omega (arith, ap length e ∙ length-append (gaps m f) (suc f ∷ [])) in
+    omega (arith, ap (λ (l : List ℕ). getD l i 0) e ∙ ap (λ (k : ℕ). getD (gaps m f ++ (suc f ∷ [])) k 0) q ∙ getD-append-seam (gaps m f) (suc f) [] 0))
+    (split-lt i (length (gaps m f))))
+
+gaps-rise : (m : List ℕ) (f i : ℕ) → suc i < length (gaps m f) → getD (gaps m f) i 0 < getD (gaps m f) (suc i) 0
+gaps-rise m zero i h = absurd (not-suc-le-zero h)
+gaps-rise m (suc f) i h =
+    split (marked m f)
+    (λ t.
+    let e = gaps-marked m f t in
+    let ih = gaps-rise m f i (omega (arith, ap length e)) in
+    rw e ih)
+    (λ t.
+    let e = gaps-gap m f t in
+    let low : i < length (gaps m f) = omega (arith, ap length e ∙ length-append (gaps m f) (suc f ∷ [])) in
+    let at-i : getD (gaps m (suc f)) i 0 ≡ getD (gaps m f) i 0 = ap (λ (l : List ℕ). getD l i 0) e ∙ List·getD-append (gaps m f) (suc f ∷ []) 0 i low in
+    ⊎-elim
+    (λ l.
+    let at-s : getD (gaps m (suc f)) (suc i) 0 ≡ getD (gaps m f) (suc i) 0 =
+    (ap (λ (l : List ℕ). getD l (suc i) 0) e ∙ List·getD-append (gaps m f) (suc f ∷ []) 0 (suc i) l) in
+    omega (arith, at-i, at-s, gaps-rise m f i l))
+    (λ l.
+    let q : suc i ≡ length (gaps m f) = omega arith in
+    let at-s : getD (gaps m (suc f)) (suc i) 0 ≡ suc f =
+    (ap (λ (l : List ℕ). getD l (suc i) 0) e ∙ ap (λ (k : ℕ). getD (gaps m f ++ (suc f ∷ [])) k 0) q ∙ getD-append-seam (gaps m f) (suc f) [] 0) in
+    omega (arith, at-i, at-s, gaps-last m f i low))
+    (split-lt (suc i) (length (gaps m f))))
+
+pub missing-members : (a : Assembler) (n : ℕ) → inAssembly (a .places) n ≡ true → (k : ℕ)
+    → (List·Memᴰ k (missing a n)
+    → (0 < k) × (k ≤ fragments (at (a .places) (find n (a .places)) .size) (a .unit)) × (marked (at (a .places) (find n (a .places)) .marks) (k - 1) ≡ false))
+    × ((0 < k) × (k ≤ fragments (at (a .places) (find n (a .places)) .size) (a .unit)) × (marked (at (a .places) (find n (a .places)) .marks) (k - 1) ≡ false)
+    → List·Memᴰ k (missing a n))
+missing-members a n e k = (
+  λ h. gaps-in _ _ k (subst (List·Memᴰ k) (missing-present a n e) h),
+  λ h. subst (List·Memᴰ k) (sym (missing-present a n e)) (gaps-all _ _ k (h .0) (h .1) (h .2)),
+)
+
+pub missing-rises : (a : Assembler) (n i : ℕ) → suc i < length (missing a n) → getD (missing a n) i 0 < getD (missing a n) (suc i) 0
+missing-rises a n i h =
+    split (inAssembly (a .places) n)
+    (λ e.
+    let p : Place = at (a .places) (find n (a .places)) in
+    let q : missing a n ≡ gaps (p .marks) (fragments (p .size) (a .unit)) = missing-present a n e in
+    rw q (gaps-rise (p .marks) (fragments (p .size) (a .unit)) i (rw q at h)))
+    (λ e. absurd (not-suc-le-zero (rw (missing-absent a n e) at h)))

@@ -3,17 +3,19 @@
 use Prim.Native.Nat.{ℕ, _+_, _*_, _-_, _≤_, _<_}
 use native.Mathlib.Omega.{arith}
 use mathlib.Core.Path.{_≡_, refl, subst}
-use mathlib.Core.Bool.{Bool, true, false, _&&_, _||_}
+use mathlib.Core.Bool.{Bool, true, false, not, _&&_, _||_}
+use mathlib.Core.Logic.{inl, inr, ⊎-elim}
 use mathlib.Core.List.{List, [], _∷_}
 use lib.ListN.{length}
+use lib.IntN.{ℤ, pos, negsuc}
 use lib.Dec.{ltb, leb, eqb, T}
 use borrow.Author.Tests.{ltb-false, leb-false, eqb-true, eqb-false, not-false, lt-ltb, le-ltb, lt-leb, eq-eqb, ne-eqb}
-use Rattle.sequence_number.specs.Number.{top}
-use Rattle.sequence_number.proofs.Split.{split}
+use Rattle.sequence_number.specs.Number.{top, numberOf, isNumber}
+use Rattle.sequence_number.proofs.Split.{split, split-lt}
 use Rattle.fragment_assembler.specs.Call.{opened}
 use Rattle.fragment_assembler.specs.Fragments.{fragments}
 use Rattle.fragment_assembler.specs.Inner.{RunOk}
-use Rattle.fragment_assembler.specs.Refusal.{runRefusal, row, rows, Call, refusal, opens, first, runRows, Row, callOf, sizeFor}
+use Rattle.fragment_assembler.specs.Refusal.{runRefusal, row, rows, Call, refusal, opens, first, runRows, Row, callOf, sizeFor, GivenBy}
 use Rattle.fragment_assembler.specs.State.{Assembler, at}
 use Rattle.fragment_assembler.specs.Table.{count, find, has}
 
@@ -167,3 +169,22 @@ passed a n c e =
 
     opened : has (a .places) (c .number) ≡ false → (b : Bool) → opens a c && b ≡ false → b ≡ false
     opened t b e = rw t at e
+
+-- ---- exactly when
+
+pub first-exactly : (rs : List Row) (n : ℕ) → 0 < n → (first rs ≡ n → GivenBy n rs) × (GivenBy n rs → first rs ≡ n)
+first-exactly [] n h = (λ e. absurd (omega arith), λ x. absurd x)
+first-exactly (r ∷ rs) n h =
+    let ih = first-exactly rs n h in
+    split (r .holds)
+    (λ t. (λ e. inl (t, rw t at e), λ x. rw t (⊎-elim (λ y. y .1) (λ y. let z : _≡_ {A = ℕ} 0 1 = cc in absurd (omega arith)) x)))
+    (λ t. (λ e. inr (t, ih .0 (rw t at e)), λ x. rw t (⊎-elim (λ y. let z : _≡_ {A = ℕ} 0 1 = cc in absurd (omega arith)) (λ y. ih .1 (y .1)) x)))
+
+-- row 4 on the number as a call takes it
+pub number-row : (n : ℤ) → eqb (numberOf n) 0 || leb top (numberOf n) ≡ not (isNumber n)
+number-row (negsuc n) = refl
+number-row (pos n) =
+    ⊎-elim
+    (λ a.
+    ⊎-elim (λ b. rw (lt-ltb 0 n a, lt-ltb n top b, ne-eqb n 0 (λ z. omega arith), lt-leb top n b)) (λ b. rw (lt-ltb 0 n a, le-ltb n top b)) (split-lt n top))
+    (λ a. rw (le-ltb 0 n a)) (split-lt 0 n)

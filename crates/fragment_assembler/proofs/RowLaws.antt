@@ -33,8 +33,8 @@ ran-row (a ∷ (b ∷ (c ∷ m))) ys number time k n h e =
     placeWith : ℕ → ℕ → ℕ → List ℕ → Place
     placeWith x y z m = record { number = x; size = y; time = z; marks = m }
 
-pub ran-long : (l ys : List ℕ) (number time : ℕ) → length l ≡ 7 → length ys ≡ length (take (7 - 3) (drop 3 (set (set l 0 number) 2 time)))
+pub ran-row-long : (l ys : List ℕ) (number time : ℕ) → length l ≡ 7 → length ys ≡ length (take (7 - 3) (drop 3 (set (set l 0 number) 2 time)))
     → length (take 3 (set (set l 0 number) 2 time) ++ (ys ++ drop (7 - 3) (drop 3 (set (set l 0 number) 2 time)))) ≡ length l
-ran-long l ys number time h e =
+ran-row-long l ys number time h e =
     let f = simp (length-take, length-drop, length-set) at e in
     simp (length-append, length-take, length-drop, length-set) (omega arith)

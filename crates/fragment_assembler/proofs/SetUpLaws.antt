@@ -7,12 +7,16 @@ use mathlib.Core.Logic.{inl}
 use mathlib.Core.List.{List, _∷_, _++_}
 use lib.ListN.{length, set, take, drop, replicate, length-replicate}
 use lib.Seq.{take-at}
+use lib.Dec.{eqb}
 use borrow.Author.Tests.{lt-ltb, le-ltb, eq-eqb, ne-eqb}
 use Rattle.sequence_number.specs.Lent.{over}
+use Rattle.sequence_number.proofs.Split.{split}
+use Rattle.fragment_assembler.proofs.RefusalLaws.{first-exactly}
 use Rattle.fragment_assembler.proofs.RulesLaws.{ok-good}
 use Rattle.fragment_assembler.specs.Promise.{SetsUp}
+use Rattle.fragment_assembler.specs.Refusal.{GivenBy}
 use Rattle.fragment_assembler.specs.Rules.{Ok, Good}
-use Rattle.fragment_assembler.specs.SetUp.{empty, setUpRefusal}
+use Rattle.fragment_assembler.specs.SetUp.{empty, setUpRefusal, setUp, setting, refused, ready, setUpRows}
 use Rattle.fragment_assembler.specs.State.{at, free, Place}
 use Rattle.fragment_assembler.specs.Table.{count}
 use Rattle.fragment_assembler.specs.Words.{tableOf, bit, recordOf}
@@ -60,11 +64,12 @@ reset-words k f p m z e h = ap (λ (l : List ℕ). set (set (set l 0 f) 1 p) 2 m
 
 module _ (w : List ℕ) (f : ℕ) (reliable : Bool) (p : ℕ) where
   refuses : (k : ℕ) → setUpRefusal f p (length w) ≡ k → (k ≡ 0 → ⊥) → SetsUp w f reliable p (Refused k) w
+  unfolding setUp
   refuses k e z =
       record {
-        refusal = sym e;
-        words = rw (ne-eqb (setUpRefusal f p (length w)) 0 (λ x. z (sym e ∙ x)));
-        good = λ x. absurd (z x);
+        same =
+            rw (ne-eqb (setUpRefusal f p (length w)) 0 (λ x. z (sym e ∙ x))) (ap (λ (n : ℕ). setting (refused n) w) (sym e));
+        good = λ x. let y : _≡_ {A = ℕ} 0 1 = cc in absurd (omega arith);
       }
 
   pub set-up-unit : f ≡ 0 → SetsUp w f reliable p (Refused 14) w
@@ -88,7 +93,7 @@ module _ (w : List ℕ) (f : ℕ) (reliable : Bool) (p : ℕ) where
 
         pub set-up-done : (m : ℕ) (ys : List ℕ) → 906 ≤ length w → f < 65536 → m ≡ bit reliable → ys ≡ f ∷ (p ∷ (m ∷ replicate 903 0))
             → SetsUp w f reliable p Ready (take 0 w ++ (ys ++ drop (906 - 0) (drop 0 w)))
-        unfolding setUpRefusal
+        unfolding setUpRefusal setUp
         set-up-done m ys s h em ey =
             let q : setUpRefusal f p (length w) ≡ 0 = rw (ne-eqb f 0 u, ne-eqb p 0 r, le-ltb 65536 p l, le-ltb (length w) 906 s) in
             let is : ys ≡ recordOf (empty f reliable p) = ey ∙ ap (λ (k : ℕ). f ∷ (p ∷ (k ∷ replicate 903 0))) em ∙ empty-words f reliable p in
@@ -97,9 +102,25 @@ module _ (w : List ℕ) (f : ℕ) (reliable : Bool) (p : ℕ) where
             let whole : ys ++ drop 906 w ≡ over (recordOf (empty f reliable p)) w =
             (ap (λ (x : List ℕ). x ++ drop 906 w) is ∙ ap (λ (j : ℕ). recordOf (empty f reliable p) ++ drop j w) (sym long)) in
             record {
-              refusal = sym q;
-              words = rw (eq-eqb (setUpRefusal f p (length w)) 0 q) whole;
+              same = rw (eq-eqb (setUpRefusal f p (length w)) 0 q) (ap (setting ready) whole);
               good = λ _.
                   subst Good (sym (ap (take 906) whole ∙ take-at (recordOf (empty f reliable p)) (drop (length (recordOf (empty f reliable p))) w) 906 long))
                   (ok-good (empty f reliable p) k);
             }
+
+-- ---- exactly when
+
+pub set-up-exactly : (f : ℕ) (reliable : Bool) (p : ℕ) (w : List ℕ) (n : ℕ) → 0 < n
+    → (setUp f reliable p w .answer ≡ refused n → GivenBy n (setUpRows f p (length w)))
+    × (GivenBy n (setUpRows f p (length w)) → setUp f reliable p w ≡ setting (refused n) w)
+unfolding setUp setUpRefusal
+set-up-exactly f reliable p w n h =
+    let x = first-exactly (setUpRows f p (length w)) n h in (
+      λ e.
+          split (eqb (setUpRefusal f p (length w)) 0)
+          (λ t. let u = rw t at e in let z : _≡_ {A = ℕ} 0 1 = cc in absurd (omega arith))
+          (λ t. let u = rw t at e in x .0 (cc)),
+      λ r.
+          let q : setUpRefusal f p (length w) ≡ n = x .1 r in
+          rw (ne-eqb (setUpRefusal f p (length w)) 0 (λ z. omega (arith, q, z))) (ap (λ (k : ℕ). setting (refused k) w) q),
+    )

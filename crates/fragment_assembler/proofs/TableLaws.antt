@@ -246,3 +246,14 @@ query-no ps n e = rw (eq-eqb n 0 e)
 pub query-yes : (ps : List Place) (n k : ℕ) → length ps ≡ 129 → (n ≡ 0 → ⊥) → k ≡ find n ps → ltb k 129 ≡ inAssembly ps n
 unfolding has
 query-yes ps n k l z e = rw (ne-eqb n 0 z) (ap (λ (j : ℕ). ltb j 129) e ∙ ap (ltb (find n ps)) (sym l))
+
+pub query-found : (ps : List Place) (n : ℕ) → 0 < n → inAssembly ps n ≡ true → (j : ℕ) × (j < length ps) × (at ps j .number ≡ n)
+unfolding has
+query-found ps n h e =
+    let t : ltb (find n ps) (length ps) ≡ true = rw (ne-eqb n 0 (λ z. omega arith)) at e in
+    let l : find n ps < length ps = ltb-true (find n ps) (length ps) t in
+    (find n ps, l, find-hit n ps l)
+
+pub query-finds : (ps : List Place) (n : ℕ) → 0 < n → (j : ℕ) × (j < length ps) × (at ps j .number ≡ n) → inAssembly ps n ≡ true
+unfolding has
+query-finds ps n h w = rw (ne-eqb n 0 (λ z. omega arith)) (lt-ltb (find n ps) (length ps) (find-some n ps (w .0) (w .1) (w .2)))

@@ -4,7 +4,7 @@ use Prim.Native.Nat.{ℕ}
 use mathlib.Core.Path.{_≡_}
 use mathlib.Core.Bool.{Bool}
 use mathlib.Core.List.{List}
-use lib.ListN.{length, take}
+use lib.ListN.{take}
 use lib.IntN.{ℤ}
 use Rattle.fragment_assembler.specs.declared.Answer.{Answer}
 use Rattle.fragment_assembler.specs.declared.Start.{Start}
@@ -14,17 +14,16 @@ use Rattle.fragment_assembler.specs.Refusal.{Call}
 use Rattle.fragment_assembler.specs.Call.{fateOf, outcome, fragment}
 use Rattle.fragment_assembler.specs.Words.{stateOf}
 use Rattle.fragment_assembler.specs.Rules.{Good}
-use Rattle.fragment_assembler.specs.SetUp.{refusalOf, setUpRefusal, setUpWords}
+use Rattle.fragment_assembler.specs.SetUp.{ready, startedOf, setting, setUp}
 use Rattle.fragment_assembler.specs.Clean.{clean, cleaning}
 use Rattle.fragment_assembler.specs.Missing.{missed, missingFor}
 use Rattle.fragment_assembler.specs.Clean as cleans
 use Rattle.fragment_assembler.specs.Missing as misses
 
--- set-up: the refusal, the words, and a record by the rules
+-- set-up: answer and words in one equation; the first 906 words are a record by the rules
 pub record SetsUp (w : List ℕ) (f : ℕ) (reliable : Bool) (p : ℕ) (r : Start) (w′ : List ℕ) : Type 0 where
-  pub refusal : refusalOf r ≡ setUpRefusal f p (length w)
-  pub words : w′ ≡ setUpWords f reliable p w
-  pub good : refusalOf r ≡ 0 → Good (take 906 w′)
+  pub same : setting (startedOf r) w′ ≡ setUp f reliable p w
+  pub good : startedOf r ≡ ready → Good (take 906 w′)
 
 -- a fragment call: answer, state and area in one equation
 pub record Does (w area : List ℕ) (c : Call) (r : Answer) (w′ after : List ℕ) : Type 0 where

@@ -2,7 +2,7 @@
 use native.Mathlib.Omega.{arith}
 use lib.ListN.{length-set}
 use borrow.Author.Needs.{needs}
-use Rattle.fragment_assembler.proofs.RowLaws.{ran-long, ran-row}
+use Rattle.fragment_assembler.proofs.RowLaws.{ran-row-long, ran-row}
 use Rattle.fragment_assembler.proofs.rows.run_row.Statement.{statement}
 use Rattle.fragment_assembler.proofs.rows.run_row.Tie as tie
 
@@ -27,7 +27,7 @@ mark-run-requires c κs = search needs
 same-length : tie.Need-same-length
 same-length c =
     let s = c .before .before .before .before .before in
-    ran-long (s .args .row .now) (c .before .before .mark-run .last .0) (s .args .number) (s .args .time) (s .pre .0) (c .before .before .mark-run .kept .0)
+    ran-row-long (s .args .row .now) (c .before .before .mark-run .last .0) (s .args .number) (s .args .time) (s .pre .0) (c .before .before .mark-run .kept .0)
 
 returns : tie.Need-returns
 returns c =
