@@ -130,7 +130,7 @@ pub fn new_datafrag(
     payload: &[u8],
 ) -> Answer
     requires { ⌜ Good (now t) ⌝ }
-    ensures { λ r. ⌜ Does (now (t .entry)) (now (area .entry)) (callOf time (numberOf number) size data_size start count (now (payload .entry))) r (now (t .exit)) (now (area .exit)) ⌝ }
+    ensures { λ r. ⌜ Does (now (t .entry)) (now (area .entry)) (callOf time (numberOf number) size «data_size» start count (now (payload .entry))) r (now (t .exit)) (now (area .exit)) ⌝ }
 {
     let n = number_of(number);
     take_frags(t, area, time, n, size, data_size, start, count, payload)

@@ -60,7 +60,7 @@ pub fn refuse(
     count: u16,
 ) -> u8
     requires { ⌜ (Good (now t)) × ((at ≡ find number (placesOf (now t))) × (number < top)) ⌝ }
-    ensures { λ r. ⌜ r ≡ refusal (stateOf (now (t .entry))) long (callOf 0 number size data_size start count []) ⌝ }
+    ensures { λ r. ⌜ r ≡ refusal (stateOf (now (t .entry))) long (callOf 0 number size «data_size» start count []) ⌝ }
 {
     let f = t[UNIT];
     let p = t[ROOM];

@@ -110,7 +110,7 @@ pub fn take_frags(
     payload: &[u8],
 ) -> Answer
     requires { ⌜ (Good (now t)) × (number < top) ⌝ }
-    ensures { λ r. ⌜ Does (now (t .entry)) (now (area .entry)) (callOf time number size data_size start count (now (payload .entry))) r (now (t .exit)) (now (area .exit)) ⌝ }
+    ensures { λ r. ⌜ Does (now (t .entry)) (now (area .entry)) (callOf time number size «data_size» start count (now (payload .entry))) r (now (t .exit)) (now (area .exit)) ⌝ }
 {
     let at = seek(t, number);
     let no = refuse(t, at, area.len(), number, size, data_size, start, count);
