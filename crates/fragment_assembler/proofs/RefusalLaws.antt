@@ -1,0 +1,190 @@
+-- Laws of `specs/Refusal.antt`: each case as the code tests it, and what an accepted call has passed. Assumes nothing.
+-- ---- a run's rows
+use Prim.Native.Nat.{ℕ, _+_, _*_, _-_, _≤_, _<_}
+use native.Mathlib.Omega.{arith}
+use mathlib.Core.Path.{_≡_, refl, subst}
+use mathlib.Core.Bool.{Bool, true, false, not, _&&_, _||_}
+use mathlib.Core.Logic.{inl, inr, ⊎-elim}
+use mathlib.Core.List.{List, [], _∷_}
+use lib.ListN.{length}
+use lib.IntN.{ℤ, pos, negsuc}
+use lib.Dec.{ltb, leb, eqb, T}
+use borrow.Author.Tests.{ltb-false, leb-false, eqb-true, eqb-false, not-false, lt-ltb, le-ltb, lt-leb, eq-eqb, ne-eqb}
+use Rattle.sequence_number.specs.Number.{top, numberOf, isNumber}
+use Rattle.sequence_number.proofs.Split.{split, split-lt}
+use Rattle.fragment_assembler.specs.Call.{opened}
+use Rattle.fragment_assembler.specs.Fragments.{fragments}
+use Rattle.fragment_assembler.specs.Inner.{RunOk}
+use Rattle.fragment_assembler.specs.Refusal.{runRefusal, row, rows, Call, refusal, opens, first, runRows, Row, callOf, sizeFor, GivenBy}
+use Rattle.fragment_assembler.specs.State.{Assembler, at}
+use Rattle.fragment_assembler.specs.Table.{count, find, has}
+
+module _ (most start count : ℕ) where
+  pub run-10 : count ≡ 0 → 10 ≡ runRefusal most start count
+  run-10 e = rw (eq-eqb count 0 e)
+
+  pub run-11 : (count ≡ 0 → ⊥) → start ≡ 0 → 11 ≡ runRefusal most start count
+  run-11 n e = rw (ne-eqb count 0 n, eq-eqb start 0 e)
+
+  pub run-12 : (count ≡ 0 → ⊥) → (start ≡ 0 → ⊥) → most < start - 1 + count → 12 ≡ runRefusal most start count
+  run-12 n m l = rw (ne-eqb count 0 n, ne-eqb start 0 m, lt-ltb most (start - 1 + count) l)
+
+  pub run-passes : (count ≡ 0 → ⊥) → (start ≡ 0 → ⊥) → start - 1 + count ≤ most → 0 ≡ runRefusal most start count
+  run-passes n m l = rw (ne-eqb count 0 n, ne-eqb start 0 m, le-ltb most (start - 1 + count) l)
+
+-- ---- the call's rows
+
+module _ (a : Assembler) (n : ℕ) (c : Call) where
+  pub call-13 : n < 129 * a .room → 13 ≡ refusal a n c
+  unfolding rows
+  call-13 h = rw (lt-ltb n (129 * a .room) h)
+
+  module _ (h : 129 * a .room ≤ n) where
+    pub call-4 : c .number ≡ 0 → 4 ≡ refusal a n c
+    unfolding rows
+    call-4 e = rw (le-ltb n (129 * a .room) h, eq-eqb (c .number) 0 e)
+
+    module _ (z : c .number ≡ 0 → ⊥) (t : c .number < top) where
+      pub call-6 : (c .size ≡ a .unit → ⊥) → 6 ≡ refusal a n c
+      unfolding rows
+      call-6 e = rw (le-ltb n (129 * a .room) h, ne-eqb (c .number) 0 z, lt-leb top (c .number) t, ne-eqb (c .size) (a .unit) e)
+
+      module _ (s : c .size ≡ a .unit) where
+        pub call-known : find (c .number) (a .places) < length (a .places)
+            → runRefusal (fragments (at (a .places) (find (c .number) (a .places)) .size) (a .unit)) (c .start) (c .count) ≡ refusal a n c
+        unfolding rows has
+        call-known e =
+            rw (
+              le-ltb n (129 * a .room) h,
+              ne-eqb (c .number) 0 z,
+              lt-leb top (c .number) t,
+              eq-eqb (c .size) (a .unit) s,
+              lt-ltb (find (c .number) (a .places)) (length (a .places)) e,
+            )
+
+        module _ (e : length (a .places) ≤ find (c .number) (a .places)) where
+          -- what is left to ask of a call that opens
+          opening : first (
+              row 7 (ltb (c .total) (a .unit))
+              ∷ (row 8 (ltb (a .room) (c .total))
+              ∷ (row 9 (ltb 256 (fragments (c .total) (a .unit)))
+              ∷ runRows (fragments (c .total) (a .unit)) (c .start) (c .count)))
+              )
+              ≡ refusal a n c
+          unfolding rows has
+          opening =
+              rw (
+                le-ltb n (129 * a .room) h,
+                ne-eqb (c .number) 0 z,
+                lt-leb top (c .number) t,
+                eq-eqb (c .size) (a .unit) s,
+                le-ltb (find (c .number) (a .places)) (length (a .places)) e,
+              )
+
+          pub call-7 : c .total < a .unit → 7 ≡ refusal a n c
+          call-7 l = subst (λ (k : ℕ). 7 ≡ k) opening (rw (lt-ltb (c .total) (a .unit) l))
+
+          module _ (l : a .unit ≤ c .total) where
+            pub call-8 : a .room < c .total → 8 ≡ refusal a n c
+            call-8 k = subst (λ (r : ℕ). 8 ≡ r) opening (rw (le-ltb (c .total) (a .unit) l, lt-ltb (a .room) (c .total) k))
+
+            module _ (k : c .total ≤ a .room) where
+              pub call-9 : 256 < fragments (c .total) (a .unit) → 9 ≡ refusal a n c
+              call-9 m =
+                  subst (λ (r : ℕ). 9 ≡ r) opening
+                  (rw (le-ltb (c .total) (a .unit) l, le-ltb (a .room) (c .total) k, lt-ltb 256 (fragments (c .total) (a .unit)) m))
+
+              pub call-opens : fragments (c .total) (a .unit) ≤ 256
+                  → runRefusal (fragments (c .total) (a .unit)) (c .start) (c .count) ≡ refusal a n c
+              call-opens m =
+                  subst (λ (r : ℕ). runRefusal (fragments (c .total) (a .unit)) (c .start) (c .count) ≡ r) opening
+                  (rw (le-ltb (c .total) (a .unit) l, le-ltb (a .room) (c .total) k, le-ltb 256 (fragments (c .total) (a .unit)) m))
+
+-- neither the time nor the payload is asked
+pub refusal-head : (a : Assembler) (n number size total start count time : ℕ) (payload : List ℕ)
+    → refusal a n (callOf 0 number size total start count []) ≡ refusal a n (callOf time number size total start count payload)
+unfolding rows
+refusal-head a n number size total start count time payload = refl
+
+-- ---- what an accepted call has passed
+
+-- no row holds
+abbrev NoneHolds : List Row → Type 0
+NoneHolds [] = T true
+NoneHolds (r ∷ rs) = (r .holds ≡ false) × NoneHolds rs
+
+abbrev Numbered : List Row → Type 0
+Numbered [] = T true
+Numbered (r ∷ rs) = (0 < r .number) × Numbered rs
+
+first-none : (rs : List Row) → Numbered rs → first rs ≡ 0 → NoneHolds rs
+first-none [] h e = tt
+first-none (r ∷ rs) h e =
+    split (r .holds) (λ t. absurd (omega (arith, h .0, rw t at e))) (λ t. (t, first-none rs (h .1) (rw t at e)))
+
+or-left : (a b : Bool) → a || b ≡ false → (a ≡ false) × (b ≡ false)
+or-left true b e = let z : _≡_ {A = ℕ} 0 1 = cc in absurd (omega arith)
+or-left false b e = (refl, e)
+
+pub record OpenOk (p f : ℕ) (c : Call) : Type 0 where
+  pub least : f ≤ c .total
+  pub most : c .total ≤ p
+  pub few : fragments (c .total) f ≤ 256
+
+pub record Passed (a : Assembler) (n : ℕ) (c : Call) : Type 0 where
+  pub long : 129 * a .room ≤ n
+  pub low : 0 < c .number
+  pub high : c .number < top
+  pub size : c .size ≡ a .unit
+  pub run : RunOk (sizeFor a c) (a .unit) c
+  pub new : has (a .places) (c .number) ≡ false → OpenOk (a .room) (a .unit) c
+
+pub passed : (a : Assembler) (n : ℕ) (c : Call) → refusal a n c ≡ 0 → Passed a n c
+unfolding rows
+passed a n c e =
+    let r = first-none (rows a n c) numbered e in
+    let r7 = r .1 .1 .1 in
+    let r10 = r7 .1 .1 .1 in
+    let n4 = or-left (eqb (c .number) 0) (leb top (c .number)) (r .1 .0) in
+    let number : c .number ≡ 0 → ⊥ = eqb-false _ _ (n4 .0) in
+    let count : c .count ≡ 0 → ⊥ = eqb-false _ _ (r10 .0) in
+    let start : c .start ≡ 0 → ⊥ = eqb-false _ _ (r10 .1 .0) in
+    record {
+      long = ltb-false _ _ (r .0);
+      low = omega arith;
+      high = leb-false _ _ (n4 .1);
+      size = eqb-true _ _ (not-false _ (r .1 .1 .0));
+      run = record { some = omega arith; start = omega arith; fits = ltb-false _ _ (r10 .1 .1 .0) };
+      new = λ t.
+          record {
+            least = ltb-false _ _ (opened t (ltb (c .total) (a .unit)) (r7 .0));
+            most = ltb-false _ _ (opened t (ltb (a .room) (c .total)) (r7 .1 .0));
+            few = ltb-false _ _ (opened t (ltb 256 (fragments (c .total) (a .unit))) (r7 .1 .1 .0));
+          };
+    }
+  where
+    numbered : Numbered (rows a n c)
+    numbered = unfold rows in
+        (omega arith, (omega arith, (omega arith, (omega arith, (omega arith, (omega arith, (omega arith, (omega arith, (omega arith, tt)))))))))
+
+    opened : has (a .places) (c .number) ≡ false → (b : Bool) → opens a c && b ≡ false → b ≡ false
+    opened t b e = rw t at e
+
+-- ---- exactly when
+
+pub first-exactly : (rs : List Row) (n : ℕ) → 0 < n → (first rs ≡ n → GivenBy n rs) × (GivenBy n rs → first rs ≡ n)
+first-exactly [] n h = (λ e. absurd (omega arith), λ x. absurd x)
+first-exactly (r ∷ rs) n h =
+    let ih = first-exactly rs n h in
+    split (r .holds)
+    (λ t. (λ e. inl (t, rw t at e), λ x. rw t (⊎-elim (λ y. y .1) (λ y. let z : _≡_ {A = ℕ} 0 1 = cc in absurd (omega arith)) x)))
+    (λ t. (λ e. inr (t, ih .0 (rw t at e)), λ x. rw t (⊎-elim (λ y. let z : _≡_ {A = ℕ} 0 1 = cc in absurd (omega arith)) (λ y. ih .1 (y .1)) x)))
+
+-- row 4 on the number as a call takes it
+pub number-row : (n : ℤ) → eqb (numberOf n) 0 || leb top (numberOf n) ≡ not (isNumber n)
+number-row (negsuc n) = refl
+number-row (pos n) =
+    ⊎-elim
+    (λ a.
+    ⊎-elim (λ b. rw (lt-ltb 0 n a, lt-ltb n top b, ne-eqb n 0 (λ z. omega arith), lt-leb top n b)) (λ b. rw (lt-ltb 0 n a, le-ltb n top b)) (split-lt n top))
+    (λ a. rw (le-ltb 0 n a)) (split-lt 0 n)

@@ -1,0 +1,31 @@
+-- Laws of `specs/View.antt`: each case as the code tests it, for every place and length. Assumes nothing.
+use Prim.Native.Nat.{ℕ, _+_, _*_, _-_, _/_, _≤_, _<_}
+use native.Mathlib.Omega.{arith}
+use native.Mathlib.Nat.{le-div-iff-mul-le, div-lt-iff-lt-mul}
+use mathlib.Core.Path.{_≡_}
+use mathlib.Core.List.{List}
+use lib.ListN.{length, take, drop}
+use borrow.Author.Tests.{le-leb, lt-leb}
+use Rattle.fragment_assembler.specs.State.{Assembler}
+use Rattle.fragment_assembler.specs.View.{shown}
+
+module _ (a : Assembler) (area : List ℕ) (i n : ℕ) where
+  -- the place starts past the end
+  pub shown-past : 0 < a .room → length area / a .room < i → take (0 - 0) (drop 0 area) ≡ shown a area i n
+  unfolding shown
+  shown-past p h = rw (lt-leb (i * a .room + n) (length area) (omega (arith, div-lt-iff-lt-mul p .0 h)))
+
+  -- it starts inside, and ends past the end
+  pub shown-over : length area - i * a .room < n → take (0 - 0) (drop 0 area) ≡ shown a area i n
+  unfolding shown
+  shown-over h = rw (lt-leb (i * a .room + n) (length area) (omega arith))
+
+  pub shown-inside : 0 < a .room → i ≤ length area / a .room → i * a .room ≤ length area
+  shown-inside p h = le-div-iff-mul-le p .0 h
+
+  pub shown-part : i * a .room ≤ length area → n ≤ length area - i * a .room
+      → take ((i * a .room + n) - i * a .room) (drop (i * a .room) area) ≡ shown a area i n
+  unfolding shown
+  shown-part h k =
+      let e : (i * a .room + n) - i * a .room ≡ n = omega arith in
+      rw (le-leb (i * a .room + n) (length area) (omega arith), e)

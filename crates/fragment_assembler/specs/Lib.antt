@@ -1,0 +1,15 @@
+pub mod State
+pub mod Table
+pub mod Marks
+pub mod Fragments
+pub mod Refusal
+pub mod Call
+pub mod Words
+pub mod Rules
+pub mod SetUp
+pub mod Listing
+pub mod Clean
+pub mod Missing
+pub mod View
+pub mod Promise
+pub mod Inner

@@ -1,0 +1,44 @@
+-- The missing fragments of a number: "listed the same way, numbered from 1; a number not in assembly gives an empty list". Assumes nothing.
+use Prim.Native.Nat.{ℕ, zero, suc}
+use mathlib.Core.Bool.{cond}
+use mathlib.Core.List.{List, [], _∷_, _++_}
+use lib.ListN.{length}
+use lib.Dec.{ltb}
+use Rattle.sequence_number.specs.Lent.{over}
+use Rattle.fragment_assembler.specs.declared.Listing.{Listing}
+use Rattle.fragment_assembler.specs.declared.Listing.the-variants.{Refused, Listed}
+use Rattle.fragment_assembler.specs.State.{Place, Assembler, at}
+use Rattle.fragment_assembler.specs.Table.{find, inAssembly}
+use Rattle.fragment_assembler.specs.Marks.{marked}
+use Rattle.fragment_assembler.specs.Fragments.{fragments}
+use Rattle.fragment_assembler.specs.Listing.{Told, refused, wrote}
+
+-- the number and the value for each case of the answer
+abbrev pub toldOf : Listing → Told
+toldOf (Refused n) = refused n
+toldOf (Listed n) = wrote n
+
+-- the fragments from 1 to n that are not marked, rising
+abbrev pub gaps : List ℕ → ℕ → List ℕ
+gaps m zero = []
+gaps m (suc n) = gaps m n ++ cond (marked m n) [] (suc n ∷ [])
+
+-- those of a number in assembly; none of another
+unfoldable pub missing : Assembler → ℕ → List ℕ
+missing a n =
+    cond (inAssembly (a .places) n)
+    (gaps (at (a .places) (find n (a .places)) .marks) (fragments (at (a .places) (find n (a .places)) .size) (a .unit)))
+    []
+
+-- what the call says and leaves: the answer and the lent list
+pub record Missed : Type 0 where
+  pub answer : Told
+  pub list : List ℕ
+
+abbrev pub missed : Told → List ℕ → Missed
+missed r out = record { answer = r; list = out }
+
+-- 3 where the list is shorter than the answer; else the fragments, and past them what was there
+unfoldable pub missingFor : Assembler → ℕ → List ℕ → Missed
+missingFor a n out =
+    cond (ltb (length out) (length (missing a n))) (missed (refused 3) out) (missed (wrote (length (missing a n))) (over (missing a n) out))

@@ -1,0 +1,32 @@
+-- The assembler's state, free of the layout that the words of the record have. Assumes nothing.
+use Prim.Native.Nat.{ℕ}
+use mathlib.Core.Bool.{Bool}
+use mathlib.Core.List.{List}
+use lib.ListN.{getD, replicate}
+
+-- A place of the table: the number of the sample that it holds (0 where it is free), the sample's size D, the time that its last accepted fragment
+-- stored, and its marks, four words of 64 bits.
+pub record Place : Type 0 where
+  pub number : ℕ
+  pub size : ℕ
+  pub time : ℕ
+  pub marks : List ℕ
+
+-- "One assembler serves one writer, with fixed fragment size f, mode reliable or best effort, and place size p": f, p, the mode and the 129 places
+pub record Assembler : Type 0 where
+  pub unit : ℕ
+  pub room : ℕ
+  pub reliable : Bool
+  pub places : List Place
+
+-- a free place is zero throughout
+abbrev pub free : Place
+free = record { number = 0; size = 0; time = 0; marks = replicate 4 0 }
+
+-- place i
+abbrev pub at : List Place → ℕ → Place
+at ps i = getD ps i free
+
+-- the same assembler with other places
+abbrev pub withPlaces : Assembler → List Place → Assembler
+withPlaces a ps = record { unit = a .unit; room = a .room; reliable = a .reliable; places = ps }

@@ -1,0 +1,95 @@
+// The refusals of a fragment call, in the document's order.
+use crate::layout::MOST_FRAGMENTS;
+use crate::layout::PLACES;
+use crate::layout::ROOM;
+use crate::layout::ROW;
+use crate::layout::SIZE;
+use crate::layout::TABLE;
+use crate::layout::UNIT;
+ghost use mathlib.Core.Path.{_≡_};
+ghost use mathlib.Core.List.{[]};
+ghost use Prim.Native.Nat.{_<_, _≤_};
+ghost use lib.ListN.{length};
+ghost use Rattle.sequence_number.specs.Number.{top};
+ghost use Rattle.fragment_assembler.specs.Table.{find};
+ghost use Rattle.fragment_assembler.specs.Fragments.{fragments};
+ghost use Rattle.fragment_assembler.specs.Refusal.{refusal, runRefusal, callOf};
+ghost use Rattle.fragment_assembler.specs.Words.{placesOf, stateOf};
+ghost use Rattle.fragment_assembler.specs.Rules.{Good};
+
+// F, how many fragments a sample of d bytes has.
+pub fn count_of(d: u64, f: u64) -> usize
+    requires { ⌜ (0 < f) × ((f < 65536) × (d < 4294967296)) ⌝ }
+    ensures { λ r. ⌜ r ≡ fragments d f ⌝ }
+{
+    let x = d as usize;
+    let y = f as usize;
+    (x + (y - 1)) / y
+}
+
+// 10, 11 and 12, on a sample of d bytes.
+fn refuse_run(d: u64, f: u64, start: u32, count: u16) -> u8
+    requires { ⌜ (0 < f) × ((f < 65536) × (d < 4294967296)) ⌝ }
+    ensures { λ r. ⌜ r ≡ runRefusal (fragments d f) start count ⌝ }
+{
+    if count == 0 {
+        return 10;
+    }
+    if start == 0 {
+        return 11;
+    }
+    let k = (start - 1) as usize;
+    let n = count as usize;
+    let end = k + n;
+    let most = count_of(d, f);
+    if most < end {
+        return 12;
+    }
+    0
+}
+
+// The refusal of a call whose number stands at `at`, 0 where it is accepted; `long` is the area's length.
+pub fn refuse(
+    t: &[u64],
+    at: usize,
+    long: usize,
+    number: u64,
+    size: u16,
+    data_size: u32,
+    start: u32,
+    count: u16,
+) -> u8
+    requires { ⌜ (Good (now t)) × ((at ≡ find number (placesOf (now t))) × (number < top)) ⌝ }
+    ensures { λ r. ⌜ r ≡ refusal (stateOf (now (t .entry))) long (callOf 0 number size «data_size» start count []) ⌝ }
+{
+    let f = t[UNIT];
+    let p = t[ROOM];
+    let room = p as usize;
+    let whole = PLACES * room;
+    if long < whole {
+        return 13;
+    }
+    if number == 0 {
+        return 4;
+    }
+    let s = size as u64;
+    if s != f {
+        return 6;
+    }
+    if at < PLACES {
+        let d = t[TABLE + ROW * at + SIZE];
+        return refuse_run(d, f, start, count);
+    }
+    let d = data_size as u64;
+    if d < f {
+        return 7;
+    }
+    if p < d {
+        return 8;
+    }
+    let most = count_of(d, f);
+    if MOST_FRAGMENTS < most {
+        return 9;
+    }
+    refuse_run(d, f, start, count)
+}

@@ -1,0 +1,129 @@
+// A run put into its place, and the end of a call: returned, dropped or kept.
+use crate::Answer;
+use crate::area::clear_at;
+use crate::area::copy_at;
+use crate::area::less;
+use crate::layout::PLACES;
+use crate::layout::ROOM;
+use crate::layout::ROW;
+use crate::layout::SIZE;
+use crate::layout::TABLE;
+use crate::layout::UNIT;
+use crate::refusal::count_of;
+use crate::refusal::refuse;
+use crate::rows::open_at;
+use crate::rows::run_at;
+use crate::rows::whole_at;
+use crate::rows::wipe_at;
+use crate::table::pick_victim;
+use crate::table::seek;
+ghost use mathlib.Core.Path.{_≡_};
+ghost use mathlib.Core.List.{[]};
+ghost use Prim.Native.Nat.{_<_};
+ghost use lib.ListN.{length, getD};
+ghost use lib.Dec.{eqb};
+ghost use Rattle.sequence_number.specs.Number.{top};
+ghost use Rattle.fragment_assembler.specs.State.{at};
+ghost use Rattle.fragment_assembler.specs.Refusal.{callOf};
+ghost use Rattle.fragment_assembler.specs.Call.{settle, finish};
+ghost use Rattle.fragment_assembler.specs.Words.{placesOf, stateOf};
+ghost use Rattle.fragment_assembler.specs.Rules.{Good};
+ghost use Rattle.fragment_assembler.specs.Promise.{Does};
+ghost use Rattle.fragment_assembler.specs.Inner.{Ends, Closes, workOf, Runs, Worked};
+
+// Where 129 are in assembly one number goes.
+fn drop_one(t: &mut [u64]) -> Answer
+    requires { ⌜ length (now t) ≡ 906 ⌝ }
+    ensures { λ r. ⌜ Ends (now (t .entry)) (settle (eqb (getD (now (t .entry)) 2 0) 1) (placesOf (now (t .entry)))) r (now (t .exit)) ⌝ }
+{
+    let room = seek(t, 0);
+    if room < PLACES {
+        return Answer::Kept;
+    }
+    let v = pick_victim(t);
+    let at = seek(t, v);
+    wipe_at(t, at);
+    Answer::Dropped(v)
+}
+
+// The end of a call on place `seat`: completeness is asked first. Only an opening can make the 129th.
+fn close(t: &mut [u64], seat: usize, opened: bool) -> Answer
+    requires { ⌜ Closes (now t) seat opened ⌝ }
+    ensures { λ r. ⌜ Ends (now (t .entry)) (finish (stateOf (now (t .entry))) (workOf seat (at (placesOf (now (t .entry))) seat) [])) r (now (t .exit)) ⌝ }
+{
+    let b = TABLE + ROW * seat;
+    let number = t[b];
+    let d = t[b + SIZE];
+    let n = count_of(d, t[UNIT]);
+    if whole_at(t, seat, n) {
+        wipe_at(t, seat);
+        return Answer::Returned {
+            number,
+            place: seat,
+            length: d as u32,
+        };
+    }
+    if opened {
+        return drop_one(t);
+    }
+    Answer::Kept
+}
+
+// The run on the place that was found or opened: bytes, marks and time, and the end of the call.
+fn insert_frags(
+    t: &mut [u64],
+    area: &mut [u8],
+    seat: usize,
+    opened: bool,
+    time: u64,
+    number: u64,
+    start: u32,
+    count: u16,
+    payload: &[u8],
+) -> Answer
+    requires { ⌜ Runs (now t) (length (now area)) seat opened (callOf time number 0 0 start count (now payload)) ⌝ }
+    ensures { λ r. ⌜ Worked (now (t .entry)) (now (area .entry)) seat (callOf time number 0 0 start count (now (payload .entry))) r (now (t .exit)) (now (area .exit)) ⌝ }
+{
+    let f = t[UNIT] as usize;
+    let p = t[ROOM] as usize;
+    let d = t[TABLE + ROW * seat + SIZE] as usize;
+    let k = (start - 1) as usize;
+    let n = count as usize;
+    let o = k * f;
+    let most = less(payload.len(), d - o);
+    let b = less(n * f, most);
+    copy_at(area, seat * p + o, payload, b);
+    run_at(t, seat, number, time, k, n);
+    close(t, seat, opened)
+}
+
+// A fragment call whose number was taken, or is 0. The number is sought once, and a free place only where it opens.
+pub fn take_frags(
+    t: &mut [u64],
+    area: &mut [u8],
+    time: u64,
+    number: u64,
+    size: u16,
+    data_size: u32,
+    start: u32,
+    count: u16,
+    payload: &[u8],
+) -> Answer
+    requires { ⌜ (Good (now t)) × (number < top) ⌝ }
+    ensures { λ r. ⌜ Does (now (t .entry)) (now (area .entry)) (callOf time number size «data_size» start count (now (payload .entry))) r (now (t .exit)) (now (area .exit)) ⌝ }
+{
+    let at = seek(t, number);
+    let no = refuse(t, at, area.len(), number, size, data_size, start, count);
+    if no != 0 {
+        return Answer::Refused(no);
+    }
+    if at < PLACES {
+        return insert_frags(t, area, at, false, time, number, start, count, payload);
+    }
+    let seat = seek(t, 0);
+    let p = t[ROOM] as usize;
+    let d = data_size as usize;
+    clear_at(area, seat * p, d);
+    open_at(t, seat, number, data_size as u64);
+    insert_frags(t, area, seat, true, time, number, start, count, payload)
+}
