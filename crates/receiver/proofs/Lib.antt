@@ -1,2 +1,3 @@
 pub mod ExportLaws
 pub mod SetAnswers
+pub mod AssemblerLaws

@@ -1,0 +1,25 @@
+-- `receiver::assembler::drucenal_assembler_is_partially_received` meets its contract: the answer from below, handed on.
+-- Assumes nothing.
+use Rattle.fragment_assembler.specs.Words.{stateOf}
+use Rattle.fragment_assembler.specs.Table.{inAssembly}
+use Rattle.sequence_number.specs.Number.{numberOf}
+use mir.Facts.{toZ-ofZ}
+use lib.IntN.{ℤ}
+use mathlib.Core.Path.{ap, _∙_}
+use borrow.Author.Needs.{needs}
+use Rattle.receiver.proofs.assembler.drucenal_assembler_is_partially_received.Statement.{
+  statement,
+}
+use Rattle.receiver.proofs.assembler.drucenal_assembler_is_partially_received.Tie as tie
+
+is-partially-received-requires : tie.Need-is-partially-received-requires
+is-partially-received-requires c κs = search needs
+
+returns : tie.Need-returns
+returns c =
+    c .is-partially-received .ensures
+    ∙ ap (λ (z : ℤ). inAssembly (stateOf (c .before .before .args .words .now) .places) (numberOf z)) (toZ-ofZ (c .before .before .fits .number))
+
+pub drucenal-assembler-is-partially-received-spec : {M : Type 1} → statement M
+drucenal-assembler-is-partially-received-spec =
+    tie.close (tie.spec is-partially-received-requires returns)
