@@ -1,0 +1,166 @@
+-- Laws of `specs/Calls.antt`: what each step keeps of the rules, which way of a call is which, and that no step lowers the base. Assumes nothing.
+use Prim.Native.Nat.{ℕ, zero, suc, _+_, _-_, _<_, _≤_, max}
+use native.Mathlib.Omega.{arith}
+use native.Mathlib.Nat.{not-suc-le-zero, suc-add, zero-add}
+use mathlib.Core.Logic.{⊎-elim}
+use mathlib.Core.Path.{_≡_, refl, ap, subst}
+use mathlib.Core.Bool.{Bool, true, false, cond}
+use mathlib.Core.List.{List, [], _∷_}
+use lib.ListN.{length, drop, getD, length-drop}
+use lib.Dec.{ltb}
+use lib.IntN.{ℤ}
+use borrow.Author.Tests.{le-ltb, le-leb, lt-leb, eq-eqb, ne-eqb}
+use Rattle.sequence_number.specs.Number.{top, natOf, numberOf}
+use Rattle.sequence_number.proofs.Split.{split, split-lt, split-eq}
+use Rattle.sequence_number.proofs.NumberLaws.{number-is}
+use Rattle.proxy_record.specs.Entries.{Entry, blank, Rising, below, from, putIn, runLen}
+use Rattle.proxy_record.specs.State.{State, Ok, begun}
+use Rattle.proxy_record.proofs.EntriesLaws.{from-all, rising-from, rising-put, length-put, from-put, run-bound, from-run}
+use Rattle.writer_proxy.specs.declared.Report.the-variants.{Done}
+use Rattle.writer_proxy.specs.Calls.{noted, put, moveOn, discard, settled, cap, lowestGone, trim, capped, ended, got, receivedAt, received}
+
+-- The rules
+
+pub ok-more : (m k : ℕ) (s : State) → m ≤ k → Ok m s → Ok k s
+ok-more m k s h o = record { few = omega (arith, o .few); rising = o .rising; low = o .low; high = o .high; known = o .known }
+
+ok-cond : (m : ℕ) (b : Bool) (x y : State) → Ok m x → Ok m y → Ok m (cond b x y)
+ok-cond m true x y p q = p
+ok-cond m false x y p q = q
+
+pub ok-begun : Ok cap begun
+ok-begun = record { few = omega arith; rising = tt; low = omega arith; high = omega arith; known = omega arith }
+
+pub ok-noted : (m n t : ℕ) (s : State) → n < top → Ok m s → Ok m (noted n t s)
+unfolding noted
+ok-noted m n t s h o =
+    ok-cond m (ltb (s .last) n) _ _
+    (record { few = o .few; rising = o .rising; low = o .low; high = o .high; known = h }) o
+
+pub ok-put : (m : ℕ) (e : Entry) (s : State) → Ok m s → s .base ≤ e .number → e .number < top → Ok (suc m) (put e s)
+ok-put m e s o p q =
+    record {
+      few = omega (arith, length-put e (s .tracked), o .few);
+      rising = rising-put (s .base) top e (s .tracked) (o .rising) p q;
+      low = o .low;
+      high = o .high;
+      known = o .known;
+    }
+
+-- the base moves on, and what it passes goes
+pub ok-advanced : (m : ℕ) (s : State) → Ok m s → Ok m (discard (moveOn s))
+unfolding discard moveOn
+ok-advanced m s o =
+    let f = from-all (s .base) top (s .base) (s .tracked) (o .rising) (omega arith) in
+    record {
+      few = rw (f, from-run (s .base) top (s .base) (s .tracked) (o .rising) (omega arith)) (simp length-drop (omega (arith, o .few)));
+      rising = rising-from (s .base) top _ (s .tracked) (o .rising);
+      low = omega (arith, o .low);
+      high = rw f (run-bound (s .base) top (s .base) (s .tracked) (o .rising) (o .high));
+      known = o .known;
+    }
+
+-- the lowest goes: what is left starts where the base is
+ok-lowest : (m : ℕ) (l : List Entry) (s : State) → s .tracked ≡ l → 0 < length l → Ok (suc m) s → Ok m (lowestGone l s)
+ok-lowest m [] s e h o = absurd (not-suc-le-zero h)
+ok-lowest m (x ∷ l) s e h o =
+    let r : Rising (s .base) top (x ∷ l) = subst (λ (z : List Entry). Rising (s .base) top z) e (o .rising) in
+    let b : max (s .base) (suc (x .number)) ≡ suc (x .number) = omega (arith, r .0) in
+    record {
+      few = omega (arith, ap length e, o .few);
+      rising = rw b (r .2);
+      low = omega (arith, o .low);
+      high = rw b (r .1);
+      known = o .known;
+    }
+
+length-lowest : (l : List Entry) (s : State) → s .tracked ≡ l → length (lowestGone l s .tracked) ≡ length l - 1
+length-lowest [] s e = ap length e
+length-lowest (x ∷ l) s e = omega arith
+
+ok-trim : (k m : ℕ) (s : State) → k ≤ length (s .tracked) → Ok (k + m) s → Ok m (trim k s)
+ok-trim zero m s h o = rw zero-add at o
+ok-trim (suc k) m s h o =
+    let p : Ok (suc (k + m)) s = rw suc-add at o in
+    let q : Ok (k + m) (lowestGone (s .tracked) s) = ok-lowest (k + m) (s .tracked) s refl (omega arith) p in
+    ok-trim k m (lowestGone (s .tracked) s) (omega (arith, length-lowest (s .tracked) s refl)) q
+
+pub ok-capped : (m : ℕ) (s : State) → Ok m s → Ok cap (capped s)
+unfolding capped
+ok-capped m s o =
+    ok-trim (length (s .tracked) - cap) cap s (omega arith)
+    (record { few = omega arith; rising = o .rising; low = o .low; high = o .high; known = o .known })
+
+pub ok-ended : (m : ℕ) (s : State) → Ok m s → Ok cap (ended s .state)
+unfolding ended
+ok-ended m s o = ok-capped m s o
+
+-- The ways of a number that was put
+
+pub settled-old : (m : ℕ) (e : Entry) (s : State) → Ok m s → e .number < s .base → settled (e .number) (put e s) ≡ s
+unfolding settled discard
+settled-old m e s o h =
+    rw (ne-eqb (e .number) (s .base) (omega arith), from-put (s .base) top e (s .tracked) (o .rising) h)
+
+pub settled-at : (n : ℕ) (s : State) → n ≡ s .base → settled n s ≡ discard (moveOn s)
+unfolding settled
+settled-at n s e = rw (eq-eqb n (s .base) e)
+
+pub settled-other : (m n : ℕ) (s : State) → Ok m s → (n ≡ s .base → ⊥) → settled n s ≡ s
+unfolding settled discard
+settled-other m n s o h = rw (ne-eqb n (s .base) h, from-all (s .base) top (s .base) (s .tracked) (o .rising) (omega arith))
+
+pub settled-first : (e : Entry) (s : State) → s .tracked ≡ [] → e .number ≡ s .base
+    → settled (e .number) (put e s) ≡ record { base = e .number + 1; tracked = []; last = s .last; time = s .time }
+unfolding settled discard moveOn putIn below from runLen
+settled-first e s h k =
+    let a : s .base ≤ e .number = omega arith in
+    let b : e .number < e .number + 1 = omega arith in
+    rw (h, eq-eqb (e .number) (s .base) k, ← k, le-leb (e .number) (e .number) (omega arith), eq-eqb (e .number) (e .number) refl, lt-leb (e .number + 1) (e .number) b)
+
+ok-settled : (e : Entry) (s : State) → Ok cap s → e .number < top → Ok (suc cap) (settled (e .number) (put e s))
+ok-settled e s o h =
+    ⊎-elim
+    (λ a. rw (settled-old cap e s o a) (ok-more cap (suc cap) s (omega arith) o))
+    (λ a.
+    let p = ok-put cap e s o a h in
+    ⊎-elim
+    (λ b. rw (settled-at (e .number) (put e s) b) (ok-advanced (suc cap) (put e s) p))
+    (λ b. rw (settled-other (suc cap) (e .number) (put e s) p b) p)
+    (split-eq (e .number) (s .base)))
+    (split-lt (e .number) (s .base))
+
+-- The cap
+
+pub ended-few : (s : State) → length (s .tracked) ≤ cap → ended s ≡ record { state = s; report = Done }
+unfolding ended capped
+ended-few s h =
+    let n : length (s .tracked) - cap ≡ 0 = omega arith in
+    rw (n, le-ltb cap (length (s .tracked)) h)
+
+pub lowest-gone : (l : List Entry) (s : State) → 0 < length l
+    → lowestGone l s ≡ record { base = max (s .base) (suc (getD l 0 blank .number)); tracked = drop 1 l; last = s .last; time = s .time }
+lowest-gone [] s h = absurd (not-suc-le-zero h)
+lowest-gone (x ∷ l) s h = refl
+
+-- Received
+
+pub noted-kept : (n t : ℕ) (s : State) → (noted n t s .tracked ≡ s .tracked) × (noted n t s .base ≡ s .base)
+unfolding noted
+noted-kept n t s = split (ltb (s .last) n) (λ e. rw e (refl, refl)) (λ e. rw e (refl, refl))
+
+pub received-is : (n t : ℕ) (s : State) → receivedAt n t s ≡ ended (settled n (put (got n t) (noted n t s)))
+unfolding receivedAt
+received-is n t s = refl
+
+pub ok-received-at : (n t : ℕ) (s : State) → Ok cap s → n < top → Ok cap (receivedAt n t s .state)
+unfolding receivedAt
+ok-received-at n t s o h = ok-ended (suc cap) _ (ok-settled (got n t) (noted n t s) (ok-noted cap n t s h o) h)
+
+pub ok-received : (n : ℤ) (t : ℕ) (s : State) → Ok cap s → Ok cap (received n t s .state)
+unfolding received
+ok-received n t s o =
+    ⊎-elim
+    (λ w. rw (w .1) o)
+    (λ w. rw (w .2) (ok-received-at (natOf n) t s o (omega (arith, w .1, w .3))))
+    (number-is n (numberOf n) refl)
