@@ -1,12 +1,17 @@
 -- The steps of `base` and `received` in place: what the record is after each, in the words of the code. Assumes nothing.
 use Prim.Native.Nat.{ℕ, zero, suc, _+_, _-_, _<_, _≤_, max}
 use native.Mathlib.Omega.{arith}
+use mathlib.Core.Logic.{⊎-elim}
 use mathlib.Core.Path.{_≡_, refl, sym, ap, _∙_, subst}
+use mathlib.Core.Bool.{cond}
 use mathlib.Core.List.{List, [], _∷_}
 use lib.ListN.{length, take, drop, getD, set, length-drop, drop-of-length-le}
 use lib.IntN.{ℤ}
+use mir.Syntax.{w64}
+use mir.Val.{SFits, ofZ, toZ}
 use borrow.Author.Tests.{lt-ltb, le-ltb, eq-eqb, ne-eqb}
-use Rattle.sequence_number.specs.Number.{top}
+use Rattle.sequence_number.specs.Number.{top, isNumber, natOf, numberOf}
+use Rattle.sequence_number.proofs.NumberLaws.{number-passed}
 use Rattle.proxy_record.specs.Entries.{Entry, blank, from, runLen}
 use Rattle.proxy_record.specs.State.{State, Ok, changed}
 use Rattle.proxy_record.specs.Column.{Runs}
@@ -16,8 +21,8 @@ use Rattle.proxy_record.proofs.PartLaws.{base-at, last-at, base-laid, last-laid
 use Rattle.proxy_record.proofs.RecordLaws.{kept-of, good-kept, of-laid, state-of, good-is}
 use Rattle.proxy_record.proofs.RowLaws.{number-word}
 use Rattle.writer_proxy.specs.declared.Report.{Report}
-use Rattle.writer_proxy.specs.declared.Report.the-variants.{Done, Forced}
-use Rattle.writer_proxy.specs.Calls.{Reply, noted, put, moveOn, discard, settled, cap, capped, ended, got, receivedAt, received, Answered}
+use Rattle.writer_proxy.specs.declared.Report.the-variants.{Done, Forced, Refused}
+use Rattle.writer_proxy.specs.Calls.{Reply, noted, put, moveOn, discard, settled, cap, capped, ended, refused, got, receivedAt, received, Answered}
 use Rattle.writer_proxy.proofs.CallsLaws.{ok-noted, ok-put, ok-advanced, settled-old, settled-at, settled-other, settled-first, ended-few, lowest-gone, noted-kept, received-is, ok-received}
 
 -- what a call answers and leaves is what a reply says
@@ -180,3 +185,22 @@ module _ (n t : ℕ) (w v : List ℕ) (g : Good w) (j : n < top) (e : v ≡ reco
 
 pub received-keeps : (n : ℤ) (t : ℕ) (w o : List ℕ) → Good w → o ≡ recordOf (received n t (stateOf w) .state) → Good o
 received-keeps n t w o g e = good-of o (received n t (stateOf w) .state) (ok-received n t (stateOf w) (g .ok)) e
+
+-- a call that takes a number: k is what `number_of` made of n, and G what the call does with it
+module _ (n : ℤ) (k : ℕ) (f : SFits w64 n) (e : k ≡ numberOf (toZ w64 (ofZ w64 n))) where
+  pub taken-below : (k ≡ 0 → ⊥) → k < top
+  taken-below h = ⊎-elim (λ w. absurd (h (w .0))) (λ w. w .1) (number-passed n k f e)
+
+  pub taken-is : (G : ℕ → Reply) (y : Reply) (r : Report) (o : List ℕ) → (k ≡ 0 → ⊥) → Answered r o (G k) → Answered r o (cond (isNumber n) (G (natOf n)) y)
+  taken-is G y r o h a =
+      ⊎-elim
+      (λ w. absurd (h (w .0)))
+      (λ w. rw (w .2, ← w .3) a)
+      (number-passed n k f e)
+
+  pub taken-not : (x : Reply) (w : List ℕ) → Good w → k ≡ 0 → Answered (Refused 4) w (cond (isNumber n) x (refused 4 (stateOf w)))
+  taken-not x w g h =
+      ⊎-elim
+      (λ v. rw (v .1) (refl, g .made))
+      (λ v. absurd (omega arith))
+      (number-passed n k f e)
