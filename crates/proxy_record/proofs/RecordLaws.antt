@@ -86,7 +86,7 @@ unfolding recordOf
 of-laid s d b n l t x y z = d .is ∙ (λ i. layout (b i) (n i) (l i) (t i) (x i) (y i) (z i))
 
 -- a row
-mark-same : (m : Mark) → markOf (kindOf m) (timeOf m) ≡ m
+pub mark-same : (m : Mark) → markOf (kindOf m) (timeOf m) ≡ m
 mark-same NotAvailable = refl
 mark-same (Received t) = refl
 

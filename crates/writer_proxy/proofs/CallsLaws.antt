@@ -3,21 +3,21 @@ use Prim.Native.Nat.{ℕ, zero, suc, _+_, _-_, _<_, _≤_, max}
 use native.Mathlib.Omega.{arith}
 use native.Mathlib.Nat.{not-suc-le-zero, suc-add, zero-add}
 use mathlib.Core.Logic.{⊎-elim}
-use mathlib.Core.Path.{_≡_, refl, ap, subst}
+use mathlib.Core.Path.{_≡_, refl, sym, ap, _∙_, subst}
 use mathlib.Core.Bool.{Bool, true, false, cond}
 use mathlib.Core.List.{List, [], _∷_}
 use lib.ListN.{length, drop, getD, length-drop}
 use lib.Dec.{ltb}
 use lib.IntN.{ℤ}
-use borrow.Author.Tests.{le-ltb, le-leb, lt-leb, eq-eqb, ne-eqb}
+use borrow.Author.Tests.{lt-ltb, le-ltb, le-leb, lt-leb, eq-eqb, ne-eqb}
 use Rattle.sequence_number.specs.Number.{top, natOf, numberOf}
 use Rattle.sequence_number.proofs.Split.{split, split-lt, split-eq}
 use Rattle.sequence_number.proofs.NumberLaws.{number-is}
 use Rattle.proxy_record.specs.Entries.{Entry, blank, Rising, below, from, putIn, runLen}
-use Rattle.proxy_record.specs.State.{State, Ok, begun}
-use Rattle.proxy_record.proofs.EntriesLaws.{from-all, rising-from, rising-put, length-put, from-put, run-bound, from-run}
+use Rattle.proxy_record.specs.State.{State, Ok, begun, changed}
+use Rattle.proxy_record.proofs.EntriesLaws.{below-none, from-all, from-drop, rising-from, rising-put, length-put, from-put, run-bound, from-run}
 use Rattle.writer_proxy.specs.declared.Report.the-variants.{Done}
-use Rattle.writer_proxy.specs.Calls.{noted, put, moveOn, discard, settled, cap, lowestGone, trim, capped, ended, got, receivedAt, received}
+use Rattle.writer_proxy.specs.Calls.{noted, put, rebased, moveOn, discard, settled, cap, lowestGone, trim, capped, ended, got, lost, receivedAt, received, irrelevantAt, irrelevant, without, skipped}
 
 -- The rules
 
@@ -164,3 +164,101 @@ ok-received n t s o =
     (λ w. rw (w .1) o)
     (λ w. rw (w .2) (ok-received-at (natOf n) t s o (omega (arith, w .1, w .3))))
     (number-is n (numberOf n) refl)
+
+-- One irrelevant
+
+pub irrelevant-old : (n : ℕ) (s : State) → Ok cap s → n < s .base → irrelevantAt n s ≡ record { state = s; report = Done }
+unfolding irrelevantAt
+irrelevant-old n s o h =
+    let z : n ≡ s .base → ⊥ = λ e. omega arith in
+    rw (lt-ltb n (s .base) h, settled-other cap n s o z, ended-few s (o .few))
+
+pub irrelevant-new : (n : ℕ) (s : State) → s .base ≤ n → irrelevantAt n s ≡ ended (settled n (put (lost n) s))
+unfolding irrelevantAt
+irrelevant-new n s h = rw (le-ltb n (s .base) h)
+
+pub ok-irrelevant-at : (n : ℕ) (s : State) → Ok cap s → n < top → Ok cap (irrelevantAt n s .state)
+ok-irrelevant-at n s o h =
+    ⊎-elim
+    (λ a. rw (irrelevant-old n s o a) o)
+    (λ a. rw (irrelevant-new n s a) (ok-ended (suc cap) _ (ok-settled (lost n) s o h)))
+    (split-lt n (s .base))
+
+pub ok-irrelevant : (n : ℤ) (s : State) → Ok cap s → Ok cap (irrelevant n s .state)
+unfolding irrelevant
+ok-irrelevant n s o =
+    ⊎-elim
+    (λ w. rw (w .1) o)
+    (λ w. rw (w .2) (ok-irrelevant-at (natOf n) s o (omega (arith, w .1, w .3))))
+    (number-is n (numberOf n) refl)
+
+-- A range that starts at the base or below it
+
+module _ (a b : ℕ) (s : State) (o : Ok cap s) (h : a ≤ s .base) where
+  without-is : without a b s ≡ changed (from b (s .tracked)) s
+  unfolding without
+  without-is = rw (below-none (s .base) top a (s .tracked) (o .rising) h)
+
+  pub skipped-none : b ≤ s .base → skipped a b s ≡ s
+  unfolding skipped
+  skipped-none k = rw (le-ltb (s .base) b k, without-is, from-all (s .base) top b (s .tracked) (o .rising) k)
+
+  pub skipped-some : s .base < b → skipped a b s ≡ discard (moveOn (rebased b (changed (from b (s .tracked)) s)))
+  unfolding skipped
+  skipped-some k = rw (lt-ltb (s .base) b k, without-is)
+
+pub ok-cut : (b : ℕ) (s : State) → Ok cap s → s .base ≤ b → b ≤ top → Ok cap (rebased b (changed (from b (s .tracked)) s))
+ok-cut b s o h j =
+    record {
+      few = rw (← from-drop (s .base) top b (s .tracked) (o .rising)) (simp length-drop (omega (arith, o .few)));
+      rising = rising-from (s .base) top b (s .tracked) (o .rising);
+      low = omega (arith, o .low);
+      high = j;
+      known = o .known;
+    }
+
+pub ok-skipped : (a b : ℕ) (s : State) → Ok cap s → a ≤ s .base → b ≤ top → Ok cap (skipped a b s)
+ok-skipped a b s o h j =
+    ⊎-elim
+    (λ k. rw (skipped-some a b s o h k) (ok-advanced cap _ (ok-cut b s o (omega arith) j)))
+    (λ k. rw (skipped-none a b s o h k) o)
+    (split-lt (s .base) b)
+
+-- a range's start below the base does not matter
+pub skipped-same : (a b : ℕ) (s : State) → Ok cap s → a ≤ s .base → skipped 0 b s ≡ skipped a b s
+skipped-same a b s o h =
+    ⊎-elim
+    (λ k. skipped-some 0 b s o (omega arith) k ∙ sym (skipped-some a b s o h k))
+    (λ k. skipped-none 0 b s o (omega arith) k ∙ sym (skipped-none a b s o h k))
+    (split-lt (s .base) b)
+
+-- A range
+
+pub range-low : (a b : ℕ) (s : State) → Ok cap s → a ≤ s .base → b ≤ top → rangeAt a b s ≡ record { state = skipped a b s; report = Done }
+unfolding rangeAt
+range-low a b s o h j = rw (le-leb a (s .base) h, ended-few (skipped a b s) (ok-skipped a b s o h j .few))
+
+pub range-above : (a b : ℕ) (s : State) → s .base < a → rangeAt a b s ≡ ended (putEach a (b - a) s)
+unfolding rangeAt
+range-above a b s h = rw (lt-leb a (s .base) h)
+
+ok-each : (k m a : ℕ) (s : State) → Ok m s → s .base ≤ a → a + k ≤ top → Ok (k + m) (putEach a k s)
+unfolding putEach
+ok-each zero m a s o h j = rw zero-add o
+ok-each (suc k) m a s o h j =
+    let e : suc k + m ≡ k + suc m = omega arith in
+    rw e (ok-each k (suc m) (suc a) (put (lost a) s) (ok-put m (lost a) s o h (omega arith)) (omega arith) (omega arith))
+
+pub ok-range-at : (a b : ℕ) (s : State) → Ok cap s → a ≤ b → b ≤ top → Ok cap (rangeAt a b s .state)
+ok-range-at a b s o h j =
+    ⊎-elim
+    (λ k. rw (range-above a b s k) (ok-ended (b - a + cap) (putEach a (b - a) s) (ok-each (b - a) cap a s o (omega arith) (omega arith))))
+    (λ k. rw (range-low a b s o k j) (ok-skipped a b s o k j))
+    (split-lt (s .base) a)
+
+pub ok-range : (a b : ℤ) (s : State) → SFits w64 b → Ok cap s → Ok cap (irrelevantRange a b s .state)
+unfolding irrelevantRange
+ok-range a b s f o =
+    split (ltZ b a)
+    (λ e. rw e o)
+    (λ e. rw e (ok-range-at (natOf a) (natOf b) s o (nat-order a b e) (nat-top b f)))

@@ -1,2 +1,7 @@
+pub mod NatLaws
 pub mod CallsLaws
+pub mod RangeLaws
 pub mod StepLaws
+pub mod QueryLaws
+pub mod SetUpLaws
+pub mod IrrelevantLaws

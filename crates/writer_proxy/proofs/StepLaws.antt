@@ -22,8 +22,8 @@ use Rattle.proxy_record.proofs.RecordLaws.{kept-of, good-kept, of-laid, state-o
 use Rattle.proxy_record.proofs.RowLaws.{number-word}
 use Rattle.writer_proxy.specs.declared.Report.{Report}
 use Rattle.writer_proxy.specs.declared.Report.the-variants.{Done, Forced, Refused}
-use Rattle.writer_proxy.specs.Calls.{Reply, noted, put, moveOn, discard, settled, cap, capped, ended, refused, got, receivedAt, received, Answered}
-use Rattle.writer_proxy.proofs.CallsLaws.{ok-noted, ok-put, ok-advanced, settled-old, settled-at, settled-other, settled-first, ended-few, lowest-gone, noted-kept, received-is, ok-received}
+use Rattle.writer_proxy.specs.Calls.{Reply, noted, put, moveOn, discard, settled, cap, capped, ended, refused, got, receivedAt, received, irrelevant, Answered}
+use Rattle.writer_proxy.proofs.CallsLaws.{ok-more, ok-noted, ok-put, ok-advanced, settled-old, settled-at, settled-other, settled-first, ended-few, lowest-gone, noted-kept, received-is, ok-received, ok-irrelevant}
 
 -- what a call answers and leaves is what a reply says
 pub answered : (r : Report) (o : List ℕ) (x y : Reply) → x ≡ y → Answered r o x → Answered r o y
@@ -204,3 +204,9 @@ module _ (n : ℤ) (k : ℕ) (f : SFits w64 n) (e : k ≡ numberOf (toZ w64 (ofZ
       (λ v. rw (v .1) (refl, g .made))
       (λ v. absurd (omega arith))
       (number-passed n k f e)
+
+pub good-more : (w : List ℕ) → Good w → GoodUpTo 257 w
+good-more w g = record { made = g .made; whole = g .whole; count = g .count; ok = ok-more cap 257 (stateOf w) (omega arith) (g .ok) }
+
+pub irrelevant-keeps : (n : ℤ) (w o : List ℕ) → Good w → o ≡ recordOf (irrelevant n (stateOf w) .state) → Good o
+irrelevant-keeps n w o g e = good-of o (irrelevant n (stateOf w) .state) (ok-irrelevant n (stateOf w) (g .ok)) e

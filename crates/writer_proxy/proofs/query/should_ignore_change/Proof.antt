@@ -1,0 +1,68 @@
+use native.Mathlib.Omega.{arith}
+use mathlib.Core.Path.{ap}
+use mathlib.Core.Bool.{true, false}
+use borrow.Author.Needs.{needs}
+use Rattle.proxy_record.specs.Record.{stateOf}
+use Rattle.writer_proxy.specs.Calls.{cap}
+use Rattle.writer_proxy.proofs.StepLaws.{base-word}
+use Rattle.writer_proxy.proofs.NatLaws.{nat-passed}
+use Rattle.writer_proxy.proofs.QueryLaws.{isShown, ignored-low, ignored-by}
+use Rattle.writer_proxy.proofs.query.should_ignore_change.Statement.{statement}
+use Rattle.writer_proxy.proofs.query.should_ignore_change.Tie as tie
+
+nat-of-requires : tie.Need-nat-of-requires
+nat-of-requires c κs = search needs
+
+shared-slice-read-if1 : tie.Need-shared-slice-read-if1
+shared-slice-read-if1 c = search needs
+
+returns : tie.Need-returns
+returns c =
+    let s = c .before .before .before .before in
+    let k = nat-passed (s .args .number) _ (s .fits .number) (c .before .before .nat-of .ensures) in
+    ignored-low (s .args .number) (stateOf (s .args .t .now)) (omega (arith, k, c .if1 .taken, base-word cap _ (omega arith) (s .pre)))
+
+status-of-requires : tie.Need-status-of-requires
+status-of-requires c κs = search needs
+
+enum-told : tie.Need-enum-told
+enum-told c = search needs
+
+enum-told-2 : tie.Need-enum-told-2
+enum-told-2 c = search needs
+
+enum-told-3 : tie.Need-enum-told-3
+enum-told-3 c = search needs
+
+returns-2 : tie.Need-returns-2
+returns-2 c =
+    let s = c .before .before .before .before .before .before .before in
+    let k = nat-passed (s .args .number) _ (s .fits .number) (c .before .before .before .before .before .nat-of .ensures) in
+    ignored-by cap (s .args .number) _ (stateOf (s .args .t .now)) _ false (s .pre .ok) k (omega (arith, c .before .before .before .if1 .left, base-word cap _ (omega arith) (s .pre))) (c .before .before .status-of .ensures) (ap isShown (c .enum-told .given .1))
+
+returns-3 : tie.Need-returns-3
+returns-3 c =
+    let s = c .before .before .before .before .before .before .before in
+    let k = nat-passed (s .args .number) _ (s .fits .number) (c .before .before .before .before .before .nat-of .ensures) in
+    ignored-by cap (s .args .number) _ (stateOf (s .args .t .now)) _ true (s .pre .ok) k (omega (arith, c .before .before .before .if1 .left, base-word cap _ (omega arith) (s .pre))) (c .before .before .status-of .ensures) (ap isShown (c .enum-told2 .given .1))
+
+returns-4 : tie.Need-returns-4
+returns-4 c =
+    let s = c .before .before .before .before .before .before .before in
+    let k = nat-passed (s .args .number) _ (s .fits .number) (c .before .before .before .before .before .nat-of .ensures) in
+    ignored-by cap (s .args .number) _ (stateOf (s .args .t .now)) _ true (s .pre .ok) k (omega (arith, c .before .before .before .if1 .left, base-word cap _ (omega arith) (s .pre))) (c .before .before .status-of .ensures) (ap isShown (c .enum-told3 .given .1))
+
+pub should-ignore-change-spec : {M : Type 1} → statement M
+should-ignore-change-spec =
+    tie.close
+    (tie.spec
+    nat-of-requires
+    shared-slice-read-if1
+    returns
+    status-of-requires
+    enum-told
+    enum-told-2
+    enum-told-3
+    returns-2
+    returns-3
+    returns-4)
