@@ -9,6 +9,9 @@ use mathlib.Core.List.{List, [], _∷_}
 use lib.ListN.{length, drop, getD, length-drop}
 use lib.Dec.{ltb}
 use lib.IntN.{ℤ}
+use lib.Signed.{ltZ}
+use mir.Syntax.{w64}
+use mir.Val.{SFits}
 use borrow.Author.Tests.{lt-ltb, le-ltb, le-leb, lt-leb, eq-eqb, ne-eqb}
 use Rattle.sequence_number.specs.Number.{top, natOf, numberOf}
 use Rattle.sequence_number.proofs.Split.{split, split-lt, split-eq}
@@ -17,7 +20,8 @@ use Rattle.proxy_record.specs.Entries.{Entry, blank, Rising, below, from, putIn
 use Rattle.proxy_record.specs.State.{State, Ok, begun, changed}
 use Rattle.proxy_record.proofs.EntriesLaws.{below-none, from-all, from-drop, rising-from, rising-put, length-put, from-put, run-bound, from-run}
 use Rattle.writer_proxy.specs.declared.Report.the-variants.{Done}
-use Rattle.writer_proxy.specs.Calls.{noted, put, rebased, moveOn, discard, settled, cap, lowestGone, trim, capped, ended, got, lost, receivedAt, received, irrelevantAt, irrelevant, without, skipped}
+use Rattle.writer_proxy.specs.Calls.{noted, put, rebased, moveOn, discard, settled, cap, lowestGone, trim, capped, ended, got, lost, receivedAt, received, irrelevantAt, irrelevant, without, skipped, putEach, rangeAt, irrelevantRange}
+use Rattle.writer_proxy.proofs.NatLaws.{nat-top, nat-order}
 
 -- The rules
 
@@ -234,13 +238,13 @@ skipped-same a b s o h =
 
 -- A range
 
-pub range-low : (a b : ℕ) (s : State) → Ok cap s → a ≤ s .base → b ≤ top → rangeAt a b s ≡ record { state = skipped a b s; report = Done }
+pub range-at-low : (a b : ℕ) (s : State) → Ok cap s → a ≤ s .base → b ≤ top → rangeAt a b s ≡ record { state = skipped a b s; report = Done }
 unfolding rangeAt
-range-low a b s o h j = rw (le-leb a (s .base) h, ended-few (skipped a b s) (ok-skipped a b s o h j .few))
+range-at-low a b s o h j = rw (le-leb a (s .base) h, ended-few (skipped a b s) (ok-skipped a b s o h j .few))
 
-pub range-above : (a b : ℕ) (s : State) → s .base < a → rangeAt a b s ≡ ended (putEach a (b - a) s)
+pub range-at-above : (a b : ℕ) (s : State) → s .base < a → rangeAt a b s ≡ ended (putEach a (b - a) s)
 unfolding rangeAt
-range-above a b s h = rw (lt-leb a (s .base) h)
+range-at-above a b s h = rw (lt-leb a (s .base) h)
 
 ok-each : (k m a : ℕ) (s : State) → Ok m s → s .base ≤ a → a + k ≤ top → Ok (k + m) (putEach a k s)
 unfolding putEach
@@ -252,8 +256,8 @@ ok-each (suc k) m a s o h j =
 pub ok-range-at : (a b : ℕ) (s : State) → Ok cap s → a ≤ b → b ≤ top → Ok cap (rangeAt a b s .state)
 ok-range-at a b s o h j =
     ⊎-elim
-    (λ k. rw (range-above a b s k) (ok-ended (b - a + cap) (putEach a (b - a) s) (ok-each (b - a) cap a s o (omega arith) (omega arith))))
-    (λ k. rw (range-low a b s o k j) (ok-skipped a b s o k j))
+    (λ k. rw (range-at-above a b s k) (ok-ended (b - a + cap) (putEach a (b - a) s) (ok-each (b - a) cap a s o (omega arith) (omega arith))))
+    (λ k. rw (range-at-low a b s o k j) (ok-skipped a b s o k j))
     (split-lt (s .base) a)
 
 pub ok-range : (a b : ℤ) (s : State) → SFits w64 b → Ok cap s → Ok cap (irrelevantRange a b s .state)

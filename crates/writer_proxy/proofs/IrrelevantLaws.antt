@@ -4,10 +4,15 @@ use native.Mathlib.Omega.{arith}
 use native.Mathlib.Nat.{add-zero, sub-zero, sub-self}
 use native.Mathlib.Numerals.{add-one}
 use mathlib.Core.Path.{_≡_, refl, sym, ap, _∙_}
+use mathlib.Core.Bool.{true, false}
 use mathlib.Core.List.{List, _++_}
 use lib.ListN.{length, take, drop, getD, set, length-drop}
 use lib.Dec.{T}
-use Rattle.sequence_number.specs.Number.{top}
+use lib.IntN.{ℤ}
+use lib.Signed.{ltZ}
+use mir.Syntax.{w64}
+use mir.Val.{SFits}
+use Rattle.sequence_number.specs.Number.{top, natOf}
 use Rattle.proxy_record.specs.Entries.{Entry, blank, Rising, from, rank}
 use Rattle.proxy_record.specs.State.{State, Ok, changed}
 use Rattle.proxy_record.specs.Column.{Placed}
@@ -16,11 +21,13 @@ use Rattle.proxy_record.proofs.EntriesLaws.{rising-any, from-drop, rank-within,
 use Rattle.proxy_record.proofs.PartLaws.{base-laid}
 use Rattle.proxy_record.proofs.RecordLaws.{kept-of, of-laid, state-of}
 use Rattle.proxy_record.proofs.RowLaws.{number-word, place-row}
-use Rattle.writer_proxy.specs.declared.Report.the-variants.{Done, Forced}
-use Rattle.writer_proxy.specs.Calls.{put, rebased, moveOn, discard, cap, ended, lost, skipped, putEach, Answered}
-use Rattle.writer_proxy.proofs.CallsLaws.{ok-put, ended-few, skipped-none, skipped-some, ok-cut}
+use Rattle.writer_proxy.specs.declared.Report.{Report}
+use Rattle.writer_proxy.specs.declared.Report.the-variants.{Done, Forced, Refused}
+use Rattle.writer_proxy.specs.Calls.{put, rebased, moveOn, discard, cap, ended, lost, skipped, putEach, rangeAt, irrelevantRange, Answered}
+use Rattle.writer_proxy.proofs.NatLaws.{nat-top, nat-order}
+use Rattle.writer_proxy.proofs.CallsLaws.{ok-put, ended-few, skipped-none, skipped-some, ok-cut, skipped-same, range-at-low, range-at-above, ok-range}
 use Rattle.writer_proxy.proofs.RangeLaws.{gone, rangeIn, rising-range, length-range, each-is, each-more, ended-many, get-low, drop-high, get-high, range-drop, rising-drop, range-from}
-use Rattle.writer_proxy.proofs.StepLaws.{good-of, base-word, good-more}
+use Rattle.writer_proxy.proofs.StepLaws.{answered, good-of, base-word, good-more}
 
 -- entries at the front go, and c is the base
 abbrev pub cutState : List ℕ → ℕ → ℕ → State
@@ -246,10 +253,10 @@ module _ (a b : ℤ) (fb : SFits w64 b) (w : List ℕ) (g : Good w) where
     pub range-skips : (o : List ℕ) → x ≤ getD w 0 0 → o ≡ recordOf (skipped 0 y (stateOf w)) → Answered Done o (irrelevantRange a b (stateOf w))
     range-skips o h z =
         let k : x ≤ stateOf w .base = rw (base-word cap w (omega arith) g) at h in
-        rw (range-is, range-low x y (stateOf w) (g .ok) k (range-order .1)) (refl, z ∙ ap recordOf (skipped-same x y (stateOf w) (g .ok) k))
+        rw (range-is, range-at-low x y (stateOf w) (g .ok) k (range-order .1)) (refl, z ∙ ap recordOf (skipped-same x y (stateOf w) (g .ok) k))
 
     pub range-above-base : getD w 0 0 < x → stateOf w .base < x
     range-above-base h = rw (base-word cap w (omega arith) g) at h
 
     pub range-puts : (r : Report) (o : List ℕ) → getD w 0 0 < x → Answered r o (ended (putEach x (y - x) (stateOf w))) → Answered r o (irrelevantRange a b (stateOf w))
-    range-puts r o h z = answered r o _ _ (sym (range-is ∙ range-above x y (stateOf w) (range-above-base h))) z
+    range-puts r o h z = answered r o _ _ (sym (range-is ∙ range-at-above x y (stateOf w) (range-above-base h))) z

@@ -2,7 +2,7 @@
 use Prim.Native.Nat.{ℕ, _≤_}
 use native.Mathlib.Omega.{arith}
 use mathlib.Core.Path.{_≡_, refl}
-use mathlib.Core.Bool.{true, false}
+use mathlib.Core.Bool.{Bool, true, false}
 use lib.Dec.{T}
 use lib.IntN.{ℤ, pos, negsuc, natAbs}
 use lib.Signed.{ltZ, nonNeg}
@@ -33,3 +33,6 @@ pub nat-order : (a b : ℤ) → ltZ b a ≡ false → natOf a ≤ natOf b
 nat-order (pos a) (pos b) h = omega (arith, ltb-false b a h)
 nat-order (pos a) (negsuc b) h = let z : _≡_ {A = ℕ} 0 1 = cc in absurd (omega arith)
 nat-order (negsuc a) b h = omega arith
+
+pub order-passed : (a b : ℤ) (v : Bool) → SFits w64 a → SFits w64 b → ltZ (toZ w64 (ofZ w64 b)) (toZ w64 (ofZ w64 a)) ≡ v → ltZ b a ≡ v
+order-passed a b v f g e = rw (toZ-ofZ f, toZ-ofZ g) at e
