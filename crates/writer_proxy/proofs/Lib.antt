@@ -5,3 +5,4 @@ pub mod StepLaws
 pub mod QueryLaws
 pub mod SetUpLaws
 pub mod IrrelevantLaws
+pub mod MissingLaws

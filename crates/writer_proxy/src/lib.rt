@@ -2,6 +2,7 @@
 // The record lies in 775 words that the caller lends; crate `proxy_record` has its layout.
 pub mod base;
 pub mod irrelevant;
+pub mod missing;
 pub mod number;
 pub mod query;
 pub mod received;
