@@ -6,3 +6,4 @@ pub mod QueryLaws
 pub mod SetUpLaws
 pub mod IrrelevantLaws
 pub mod MissingLaws
+pub mod CounterLaws
