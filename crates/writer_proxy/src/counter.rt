@@ -43,3 +43,13 @@ pub fn next_ack_nack_count(count: &mut i32) -> i32
     *count = next_count(n);
     n
 }
+
+// The caller's own counter record, moved on where it lies.
+pub fn next_ack_nack(counter: &mut AckNackCounter) -> i32
+    ensures { λ r. ⌜ (r ≡ now (counter .entry) .count) × (now (counter .exit) ≡ handedOut (now (counter .entry)) .counter) ⌝ }
+{
+    let n = counter.count;
+    let next = next_count(n);
+    counter.count = next;
+    n
+}
