@@ -7,19 +7,19 @@ use mathlib.Core.Path.{_≡_, refl, sym, ap, _∙_, subst}
 use mathlib.Core.Bool.{Bool, true, false, cond}
 use mathlib.Core.List.{List, [], _∷_}
 use lib.ListN.{length, drop, getD, length-drop}
-use lib.Dec.{ltb}
+use lib.Dec.{ltb, leb, eqb}
 use lib.IntN.{ℤ}
 use lib.Signed.{ltZ}
 use mir.Syntax.{w64}
 use mir.Val.{SFits}
-use borrow.Author.Tests.{lt-ltb, le-ltb, le-leb, lt-leb, eq-eqb, ne-eqb}
-use Rattle.sequence_number.specs.Number.{top, natOf, numberOf}
+use borrow.Author.Tests.{lt-ltb, le-ltb, ltb-true, le-leb, lt-leb, eq-eqb, ne-eqb}
+use Rattle.sequence_number.specs.Number.{top, isNumber, natOf, numberOf}
 use Rattle.sequence_number.proofs.Split.{split, split-lt, split-eq}
 use Rattle.sequence_number.proofs.NumberLaws.{number-is}
 use Rattle.proxy_record.specs.Entries.{Entry, blank, Rising, below, from, putIn, runLen}
 use Rattle.proxy_record.specs.State.{State, Ok, begun, changed}
 use Rattle.proxy_record.proofs.EntriesLaws.{below-none, from-all, from-drop, rising-from, rising-put, length-put, from-put, run-bound, from-run}
-use Rattle.writer_proxy.specs.declared.Report.the-variants.{Done}
+use Rattle.writer_proxy.specs.declared.Report.the-variants.{Done, Refused}
 use Rattle.writer_proxy.specs.Calls.{noted, put, rebased, moveOn, discard, settled, cap, lowestGone, trim, capped, ended, got, lost, receivedAt, received, irrelevantAt, irrelevant, without, skipped, putEach, rangeAt, irrelevantRange}
 use Rattle.writer_proxy.proofs.NatLaws.{nat-top, nat-order}
 
@@ -266,3 +266,78 @@ ok-range a b s f o =
     split (ltZ b a)
     (λ e. rw e o)
     (λ e. rw e (ok-range-at (natOf a) (natOf b) s o (nat-order a b e) (nat-top b f)))
+
+-- No step lowers the base
+
+base-noted : (n t : ℕ) (s : State) → s .base ≤ noted n t s .base
+base-noted n t s = omega (arith, noted-kept n t s .1)
+
+base-moved : (s : State) → s .base ≤ moveOn s .base
+unfolding moveOn
+base-moved s = omega arith
+
+base-settled : (n : ℕ) (s : State) → s .base ≤ settled n s .base
+unfolding settled discard
+base-settled n s = split (eqb n (s .base)) (λ e. rw e (base-moved s)) (λ e. rw e (omega arith))
+
+base-lowest : (l : List Entry) (s : State) → s .base ≤ lowestGone l s .base
+base-lowest [] s = omega arith
+base-lowest (x ∷ l) s = omega arith
+
+base-trim : (k : ℕ) (s : State) → s .base ≤ trim k s .base
+base-trim zero s = omega arith
+base-trim (suc k) s = omega (arith, base-lowest (s .tracked) s, base-trim k (lowestGone (s .tracked) s))
+
+pub base-ended : (s : State) → s .base ≤ ended s .state .base
+unfolding ended capped
+base-ended s = base-trim (length (s .tracked) - cap) s
+
+pub base-received : (n : ℤ) (t : ℕ) (s : State) → s .base ≤ received n t s .state .base
+unfolding received receivedAt
+base-received n t s =
+    split (isNumber n)
+    (λ e. rw e (omega (arith, base-noted (natOf n) t s, base-settled (natOf n) (put (got (natOf n) t) (noted (natOf n) t s)), base-ended (settled (natOf n) (put (got (natOf n) t) (noted (natOf n) t s))))))
+    (λ e. rw e (omega arith))
+
+base-irrelevant-at : (n : ℕ) (s : State) → s .base ≤ irrelevantAt n s .state .base
+unfolding irrelevantAt
+base-irrelevant-at n s =
+    split (ltb n (s .base))
+    (λ e. rw e (omega (arith, base-settled n s, base-ended (settled n s))))
+    (λ e. rw e (omega (arith, base-settled n (put (lost n) s), base-ended (settled n (put (lost n) s)))))
+
+pub base-irrelevant : (n : ℤ) (s : State) → s .base ≤ irrelevant n s .state .base
+unfolding irrelevant
+base-irrelevant n s = split (isNumber n) (λ e. rw e (base-irrelevant-at (natOf n) s)) (λ e. rw e (omega arith))
+
+base-skipped : (a b : ℕ) (s : State) → s .base ≤ skipped a b s .base
+unfolding skipped without discard
+base-skipped a b s =
+    split (ltb (s .base) b)
+    (λ e. rw e (omega (arith, ltb-true (s .base) b e, base-moved (rebased b (without a b s)))))
+    (λ e. rw e (omega arith))
+
+base-each : (k a : ℕ) (s : State) → putEach a k s .base ≡ s .base
+unfolding putEach
+base-each zero a s = refl
+base-each (suc k) a s = base-each k (suc a) (put (lost a) s)
+
+pub base-range : (a b : ℤ) (s : State) → s .base ≤ irrelevantRange a b s .state .base
+unfolding irrelevantRange rangeAt
+base-range a b s =
+    split (ltZ b a)
+    (λ e. rw e (omega arith))
+    (λ e.
+    rw e
+    (split (leb (natOf a) (s .base))
+    (λ f. rw f (omega (arith, base-skipped (natOf a) (natOf b) s, base-ended (skipped (natOf a) (natOf b) s))))
+    (λ f. rw f (omega (arith, base-each (natOf b - natOf a) (natOf a) s, base-ended (putEach (natOf a) (natOf b - natOf a) s))))))
+
+-- A call that goes on to the cap is not refused
+
+pub ended-accepted : (s : State) (k : ℕ) → ended s .report ≡ Refused k → ⊥
+unfolding ended
+ended-accepted s k =
+    split (ltb cap (length (s .tracked)))
+    (λ e. rw e (λ h. let z : _≡_ {A = ℕ} 0 1 = cc in omega arith))
+    (λ e. rw e (λ h. let z : _≡_ {A = ℕ} 0 1 = cc in omega arith))

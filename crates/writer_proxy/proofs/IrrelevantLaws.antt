@@ -105,9 +105,8 @@ abbrev pub Room : List ℕ → ℕ → ℕ → Type 0
 Room w a m = Good w × (stateOf w .base ≤ a) × (a + m ≤ top) × (length (putEach a m (stateOf w) .tracked) ≤ cap)
 
 module _ (w : List ℕ) (g : Good w) (a b x y T : ℕ) (h : stateOf w .base < a) (j : a ≤ b) (k : b ≤ top)
-  (px : Placed a (getD w 1 0) x (take 257 (drop 4 w))) (py : Placed b (getD w 1 0) y (take 257 (drop 4 w)))
-  (t : T ≡ x + (b - a) + (getD w 1 0 - y)) where
-
+    (px : Placed a (getD w 1 0) x (take 257 (drop 4 w))) (py : Placed b (getD w 1 0) y (take 257 (drop 4 w)))
+    (t : T ≡ x + (b - a) + (getD w 1 0 - y)) where
   at-a : x ≡ rank a (tracked w)
   at-a = place-row w g (getD w 1 0) a x (g .count) px
 
@@ -135,10 +134,9 @@ module _ (w : List ℕ) (g : Good w) (a b x y T : ℕ) (h : stateOf w .base < a)
 
   -- a forced step: the first n entries go, c is the base, and the numbers from d on are put
   module _ (q : cap < T) (n c d : ℕ) (u : List ℕ) (e : u ≡ recordOf (changed (drop n (tracked w)) (stateOf w)))
-    (p : Rising c top (drop n (tracked w))) (lo : 1 ≤ c) (hi : c ≤ d) (m : d ≤ b)
-    (f : c ≡ suc (getD (rangeIn a b (tracked w)) (T - cap - 1) blank .number))
-    (r : rangeIn d b (drop n (tracked w)) ≡ drop (T - cap) (rangeIn a b (tracked w))) where
-
+      (p : Rising c top (drop n (tracked w))) (lo : 1 ≤ c) (hi : c ≤ d) (m : d ≤ b)
+      (f : c ≡ suc (getD (rangeIn a b (tracked w)) (T - cap - 1) blank .number))
+      (r : rangeIn d b (drop n (tracked w)) ≡ drop (T - cap) (rangeIn a b (tracked w))) where
     cut-ok : Ok cap (cutState w n c)
     cut-ok = record { few = simp length-drop (omega (arith, g .ok .few)); rising = p; low = lo; high = omega arith; known = g .ok .known }
 
@@ -149,11 +147,12 @@ module _ (w : List ℕ) (g : Good w) (a b x y T : ℕ) (h : stateOf w .base < a)
         ap (putEach d (b - d)) (cut-state w g n c u e) ∙ z ∙ ap (λ (l : List Entry). rebased c (changed l (stateOf w))) r
 
     pub room-forced : Room (set u 0 c) d (b - d)
-    room-forced =
-        (cut-good w g n c u e cut-ok,
-        rw (cut-state w g n c u e) hi,
-        omega arith,
-        rw rest (simp length-drop (omega (arith, all))))
+    room-forced = (
+      cut-good w g n c u e cut-ok,
+      rw (cut-state w g n c u e) hi,
+      omega arith,
+      rw rest (simp length-drop (omega (arith, all))),
+    )
 
     pub range-forced : (o : List ℕ) → o ≡ recordOf (putEach d (b - d) (stateOf (set u 0 c))) → Answered (Forced (getD w 0 0) c) o (ended (putEach a (b - a) (stateOf w)))
     range-forced o z =
@@ -165,7 +164,7 @@ module _ (w : List ℕ) (g : Good w) (a b x y T : ℕ) (h : stateOf w .base < a)
 
   -- the range stays whole: the base is after the last entry that goes
   module _ (q : cap < T) (v : T - cap ≤ x) (e : ℕ) (c : e ≡ getD (take 257 (drop 4 w)) (T - cap - 1) 0) (u : List ℕ)
-    (z : u ≡ recordOf (changed (drop (T - cap) (tracked w)) (stateOf w))) where
+      (z : u ≡ recordOf (changed (drop (T - cap) (tracked w)) (stateOf w))) where
     inside : T - cap - 1 < rank a (tracked w)
     inside = omega (arith, at-a)
 
@@ -196,7 +195,7 @@ module _ (w : List ℕ) (g : Good w) (a b x y T : ℕ) (h : stateOf w .base < a)
 
   -- of the range only the end stays
   module _ (v : x < T - cap) (n : ℕ) (pn : Placed (a + (T - cap - x)) (getD w 1 0) n (take 257 (drop 4 w))) (u : List ℕ)
-    (z : u ≡ recordOf (changed (drop n (tracked w)) (stateOf w))) where
+      (z : u ≡ recordOf (changed (drop n (tracked w)) (stateOf w))) where
     at-new : n ≡ rank (a + (T - cap - x)) (tracked w)
     at-new = place-row w g (getD w 1 0) (a + (T - cap - x)) n (g .count) pn
 

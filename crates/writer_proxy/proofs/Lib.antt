@@ -5,5 +5,9 @@ pub mod StepLaws
 pub mod QueryLaws
 pub mod SetUpLaws
 pub mod IrrelevantLaws
+pub mod TrackedLaws
 pub mod MissingLaws
 pub mod CounterLaws
+pub mod Refusals
+pub mod Promises
+pub mod KnownValues

@@ -3,10 +3,10 @@ use Prim.Native.Nat.{ℕ, zero, suc, _+_, _-_, _<_, _≤_, max}
 use native.Mathlib.Omega.{arith}
 use native.Mathlib.Nat.{suc-add, add-zero, zero-add, sub-self}
 use native.Mathlib.Numerals.{add-one}
-use mathlib.Core.Logic.{_⊎_, inl, inr, ⊎-elim}
+use mathlib.Core.Logic.{_⊎_, inl, inr, ⊎-elim, _↔_}
 use mathlib.Core.Path.{_≡_, refl, sym, ap, _∙_}
 use mathlib.Core.Bool.{Bool, true, false, cond}
-use mathlib.Core.List.{List, [], _∷_, _++_, map, append-assoc, append-nil, map-append}
+use mathlib.Core.List.{List, [], _∷_, _++_, map, append-assoc, append-nil, map-append, List·Memᴰ, List·Memᴰ·head, List·Memᴰ·tail, List·Memᴰ·not-nil, List·Memᴰ·cases-cons}
 use lib.ListN.{length, take, drop, getD, set, length-append, length-drop, length-map}
 use lib.Seq.{drop-cons, set-at, getD-take, getD-drop}
 use lib.IntN.{ℤ, pos}
@@ -16,7 +16,7 @@ use mir.Facts.{toZ-pos}
 use borrow.Author.Tests.{lt-ltb, le-ltb, eq-eqb, ne-eqb}
 use Rattle.sequence_number.specs.Number.{top, natOf}
 use Rattle.sequence_number.specs.Lent.{over}
-use Rattle.sequence_number.proofs.Split.{split}
+use Rattle.sequence_number.proofs.Split.{split, split-eq}
 use Rattle.proxy_record.specs.Entries.{Entry, blank, Rising, rank}
 use Rattle.proxy_record.specs.State.{State}
 use Rattle.proxy_record.specs.Column.{Placed}
@@ -27,6 +27,7 @@ use Rattle.writer_proxy.specs.declared.missing.Listing.the-variants.{Ref
 use Rattle.writer_proxy.specs.Calls.{cap}
 use Rattle.writer_proxy.specs.Queries.{has}
 use Rattle.writer_proxy.specs.Missing.{missing, missingOf, listed}
+use Rattle.writer_proxy.specs.Statements.{Ascending}
 use Rattle.writer_proxy.proofs.NatLaws.{nat-top, nat-passed}
 use Rattle.writer_proxy.proofs.StepLaws.{base-word}
 use Rattle.writer_proxy.proofs.QueryLaws.{rank-next}
@@ -214,8 +215,8 @@ module _ (start end : ℤ) (s : State) (out : List ℤ) where
 
 -- the two ends, in the words of the code
 module _ (start end : ℤ) (fs : SFits w64 start) (fe : SFits w64 end) (w : List ℕ) (g : Good w) (last first lo hi : ℕ)
-  (pe : last ≡ natOf (toZ w64 (ofZ w64 end))) (ps : first ≡ natOf (toZ w64 (ofZ w64 start))) (n : last ≡ top → ⊥)
-  (l : lo ≡ max (getD w 0 0) first) (h : hi ≡ max lo (last + 1)) where
+    (pe : last ≡ natOf (toZ w64 (ofZ w64 end))) (ps : first ≡ natOf (toZ w64 (ofZ w64 start))) (n : last ≡ top → ⊥)
+    (l : lo ≡ max (getD w 0 0) first) (h : hi ≡ max lo (last + 1)) where
   pub end-open : natOf end ≡ top → ⊥
   end-open z = n (nat-passed end last fe pe ∙ z)
 
@@ -232,3 +233,45 @@ module _ (start end : ℤ) (fs : SFits w64 start) (fe : SFits w64 end) (w : List
       let b = nat-passed start first fs ps in
       let c = base-word cap w (omega arith) g in
       missing-ends start end (stateOf w) [] lo hi (omega arith) (omega arith)
+
+-- which numbers the list has, and their order
+pub missing-has : (n lo k : ℕ) (l : List Entry) → List·Memᴰ n (missing lo k l) ↔ ((lo ≤ n) × (n < lo + k) × (has n l ≡ false))
+unfolding missing
+missing-has n lo zero l = (λ h. absurd (List·Memᴰ·not-nil h), λ h. absurd (omega (arith, h .0, h .1)))
+missing-has n lo (suc k) l =
+    let i = missing-has n (suc lo) k l in
+    split (has lo l)
+    (λ e.
+    rw e (
+      λ h. let m = i .0 h in (omega (arith, m .0), omega (arith, m .1), m .2),
+      λ h.
+          ⊎-elim
+          (λ f. let z : _≡_ {A = ℕ} 0 1 = (let g : has lo l ≡ false = rw f at (h .2) in cc) in absurd (omega arith))
+          (λ f. i .1 (omega (arith, h .0), omega (arith, h .1), h .2))
+          (split-eq n lo),
+    ))
+    (λ e.
+    rw e (
+      λ h.
+          ⊎-elim
+          (λ f. (omega arith, omega arith, rw f e))
+          (λ t. let m = i .0 t in (omega (arith, m .0), omega (arith, m .1), m .2))
+          (List·Memᴰ·cases-cons h),
+      λ h.
+          ⊎-elim
+          (λ f. List·Memᴰ·head f)
+          (λ f. List·Memᴰ·tail (i .1 (omega (arith, h .0), omega (arith, h .1), h .2)))
+          (split-eq n lo),
+    ))
+
+ascending-weaken : (lo : ℕ) (l : List ℕ) → Ascending (suc lo) l → Ascending lo l
+ascending-weaken lo [] a = tt
+ascending-weaken lo (x ∷ l) a = (omega (arith, a .0), a .1)
+
+pub missing-ascends : (lo k : ℕ) (l : List Entry) → Ascending lo (missing lo k l)
+unfolding missing
+missing-ascends lo zero l = tt
+missing-ascends lo (suc k) l =
+    split (has lo l)
+    (λ e. rw e (ascending-weaken lo (missing (suc lo) k l) (missing-ascends (suc lo) k l)))
+    (λ e. rw e (omega arith, missing-ascends (suc lo) k l))

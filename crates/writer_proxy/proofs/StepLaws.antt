@@ -120,9 +120,10 @@ module _ (w : List ℕ) (g : GoodUpTo 257 w) where
       let c : getD w 0 0 ≡ s .base = base-word 257 w (omega arith) g in
       let y : max (s .base) (suc (getD (s .tracked) 0 blank .number)) ≡ b = omega (arith, number-word 257 0 w (omega arith) g k) in
       let d = kept-of (changed (drop 1 (s .tracked)) s) u (simp length-drop (omega (arith, g .ok .few))) z in
-      rw (n, lt-ltb cap (length (tracked w)) m, lowest-gone (tracked w) s k, y)
-      (ap (λ (v : ℕ). Forced v b) c,
-      of-laid (record { base = b; tracked = drop 1 (s .tracked); last = s .last; time = s .time }) (base-laid d b) refl refl refl refl refl refl refl)
+      rw (n, lt-ltb cap (length (tracked w)) m, lowest-gone (tracked w) s k, y) (
+        ap (λ (v : ℕ). Forced v b) c,
+        of-laid (record { base = b; tracked = drop 1 (s .tracked); last = s .last; time = s .time }) (base-laid d b) refl refl refl refl refl refl refl,
+      )
 
 -- `track`: p is the record that the entry was put in
 module _ (w : List ℕ) (g : Good w) (e : Entry) (h : stateOf w .base ≤ e .number) (j : e .number < top) (p : List ℕ) (f : p ≡ recordOf (put e (stateOf w))) where

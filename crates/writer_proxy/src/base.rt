@@ -5,9 +5,14 @@ ghost use Rattle.sequence_number.specs.Number.{top};
 ghost use Rattle.proxy_record.specs.Record.{GoodUpTo, Good, Marks, entryOf, recordOf, stateOf};
 ghost use Rattle.writer_proxy.specs.Calls.{noted, put, moveOn, discard, settled, ended, Answered};
 use crate::Report;
+use proxy_record::BASE;
+use proxy_record::COUNT;
+use proxy_record::KINDS;
+use proxy_record::LAST;
+use proxy_record::NUMBERS;
+use proxy_record::TIME;
 use proxy_record::column;
 use proxy_record::rows;
-use proxy_record::{BASE, COUNT, KINDS, LAST, NUMBERS, TIME};
 
 // The last received number follows a greater one.
 pub fn note(t: &mut [u64], n: u64, time: u64)

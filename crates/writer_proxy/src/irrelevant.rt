@@ -5,12 +5,16 @@ ghost use lib.ListN.{length};
 ghost use Rattle.sequence_number.specs.Number.{top};
 ghost use Rattle.proxy_record.specs.Record.{Good, recordOf, stateOf};
 ghost use Rattle.writer_proxy.specs.Calls.{cap, ended, skipped, putEach, irrelevant, irrelevantRange, upTo, Answered};
+use crate::Report;
 use crate::base;
 use crate::number::nat_of;
-use crate::Report;
+use proxy_record::BASE;
+use proxy_record::COUNT;
+use proxy_record::KINDS;
+use proxy_record::NOT_AVAILABLE;
+use proxy_record::NUMBERS;
 use proxy_record::column;
 use proxy_record::rows;
-use proxy_record::{BASE, COUNT, KINDS, NOT_AVAILABLE, NUMBERS};
 use sequence_number::number::number_of;
 
 // A number is not available. Refused with 4: a number below 1, or 2^63 - 1. The Rust lacks the cap here.

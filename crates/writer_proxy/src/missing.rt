@@ -9,8 +9,11 @@ ghost use Rattle.sequence_number.specs.Lent.{over};
 ghost use Rattle.proxy_record.specs.Record.{Good, stateOf, tracked};
 ghost use Rattle.writer_proxy.specs.Missing.{missing, listed};
 use crate::number::nat_of;
+use proxy_record::BASE;
+use proxy_record::COUNT;
+use proxy_record::KINDS;
+use proxy_record::NUMBERS;
 use proxy_record::column;
-use proxy_record::{BASE, COUNT, KINDS, NUMBERS};
 
 // How many numbers are missing and listed, or document 01's refusal number.
 pub enum Listing {

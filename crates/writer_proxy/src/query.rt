@@ -3,8 +3,16 @@ ghost use mathlib.Core.Path.{_≡_};
 ghost use Rattle.proxy_record.specs.Record.{Good, stateOf, tracked};
 ghost use Rattle.writer_proxy.specs.Queries.{look, shown, statusOf, ignored, lastOf};
 use crate::number::nat_of;
+use proxy_record::BASE;
+use proxy_record::COUNT;
+use proxy_record::KINDS;
+use proxy_record::LAST;
+use proxy_record::NOT_AVAILABLE;
+use proxy_record::NUMBERS;
+use proxy_record::TIME;
+use proxy_record::TIMES;
+use proxy_record::WORDS;
 use proxy_record::column;
-use proxy_record::{BASE, COUNT, KINDS, LAST, NOT_AVAILABLE, NUMBERS, TIME, TIMES, WORDS};
 
 // What is known of a number: nothing, that it is not available, or that it was received at a time.
 pub enum Status {

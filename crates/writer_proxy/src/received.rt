@@ -3,9 +3,11 @@ ghost use Prim.Native.Nat.{_<_};
 ghost use Rattle.sequence_number.specs.Number.{top};
 ghost use Rattle.proxy_record.specs.Record.{Good, stateOf};
 ghost use Rattle.writer_proxy.specs.Calls.{receivedAt, received, Answered};
-use crate::base;
 use crate::Report;
-use proxy_record::{BASE, COUNT, RECEIVED};
+use crate::base;
+use proxy_record::BASE;
+use proxy_record::COUNT;
+use proxy_record::RECEIVED;
 use sequence_number::number::number_of;
 
 fn received_any(t: &mut [u64], n: u64, time: u64) -> Report

@@ -5,8 +5,9 @@ ghost use lib.ListN.{length, take};
 ghost use Rattle.proxy_record.specs.Record.{Good, size};
 ghost use Rattle.writer_proxy.specs.SetUp.{setUp};
 use crate::Report;
+use proxy_record::BASE;
+use proxy_record::WORDS;
 use proxy_record::column;
-use proxy_record::{BASE, WORDS};
 
 // The first 775 lent words become the record; those past it keep their values. Refused with 3: fewer words than that.
 pub fn set_up(t: &mut [u64]) -> Report

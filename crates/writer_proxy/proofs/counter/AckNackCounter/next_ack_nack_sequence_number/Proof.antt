@@ -1,7 +1,6 @@
 use borrow.Author.Needs.{needs}
 use Rattle.writer_proxy.proofs.CounterLaws.{handed}
 use Rattle.writer_proxy.proofs.counter.AckNackCounter.next_ack_nack_sequence_number.Statement.{
-
   statement,
 }
 use Rattle.writer_proxy.proofs.counter.AckNackCounter.next_ack_nack_sequence_number.Tie as tie
