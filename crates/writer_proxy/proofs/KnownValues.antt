@@ -7,9 +7,9 @@ use mathlib.Core.List.{List, [], _∷_, map}
 use lib.IntN.{pos}
 use Rattle.proxy_record.specs.Entries.{Entry, below, from, putIn, runLen}
 use Rattle.proxy_record.specs.State.{State, begun, changed}
-use Rattle.writer_proxy.specs.Calls.{noted, moveOn, discard, settled, capped, ended, receivedAt, received, without, skipped, putEach, rangeAt, irrelevantRange}
+use Rattle.proxy_core.specs.Calls.{noted, moveOn, discard, settled, capped, ended, receivedAt, received, without, skipped, putEach, rangeAt, irrelevantRange}
+use Rattle.proxy_core.proofs.RangeLaws.{gone, rangeIn, each-is}
 use Rattle.writer_proxy.specs.Statements.{Tracked}
-use Rattle.writer_proxy.proofs.RangeLaws.{gone, rangeIn, each-is}
 
 -- the k numbers from n on, and those received in rising order
 abbrev upFrom : ℕ → ℕ → List ℕ

@@ -1,10 +1,5 @@
-pub mod NatLaws
-pub mod CallsLaws
-pub mod RangeLaws
-pub mod StepLaws
 pub mod QueryLaws
 pub mod SetUpLaws
-pub mod IrrelevantLaws
 pub mod TrackedLaws
 pub mod MissingLaws
 pub mod CounterLaws

@@ -23,13 +23,13 @@ use Rattle.proxy_record.specs.Column.{Placed}
 use Rattle.proxy_record.specs.Record.{stateOf, tracked, Good}
 use Rattle.proxy_record.proofs.EntriesLaws.{rising-any}
 use Rattle.proxy_record.proofs.RowLaws.{number-word, place-row}
+use Rattle.proxy_core.specs.Calls.{cap}
+use Rattle.proxy_core.proofs.NatLaws.{nat-top, nat-passed}
+use Rattle.proxy_core.proofs.StepLaws.{base-word}
 use Rattle.writer_proxy.specs.declared.missing.Listing.the-variants.{Refused, Listed}
-use Rattle.writer_proxy.specs.Calls.{cap}
 use Rattle.writer_proxy.specs.Queries.{has}
 use Rattle.writer_proxy.specs.Missing.{missing, missingOf, listed}
 use Rattle.writer_proxy.specs.Statements.{Ascending}
-use Rattle.writer_proxy.proofs.NatLaws.{nat-top, nat-passed}
-use Rattle.writer_proxy.proofs.StepLaws.{base-word}
 use Rattle.writer_proxy.proofs.QueryLaws.{rank-next}
 
 -- whether n is tracked, as the list of the one number n

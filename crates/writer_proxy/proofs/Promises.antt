@@ -19,21 +19,21 @@ use Rattle.sequence_number.proofs.Split.{split, split-lt, split-eq}
 use Rattle.proxy_record.specs.State.{State, Ok, begun}
 use Rattle.proxy_record.specs.Record.{size, recordOf, stateOf}
 use Rattle.proxy_record.proofs.RecordLaws.{state-of}
+use Rattle.proxy_core.specs.declared.Report.{Report}
+use Rattle.proxy_core.specs.declared.Report.the-variants.{Refused}
+use Rattle.proxy_core.specs.Calls.{Reply, put, moveOn, cap, ended, lost, receivedAt, received, irrelevantAt, irrelevant, putEach, rangeAt, irrelevantRange, upTo, Answered}
+use Rattle.proxy_core.proofs.CallsLaws.{ok-begun, ok-received, ok-irrelevant, range-at-above, ok-range, base-received, base-irrelevant, base-range}
 use Rattle.writer_proxy.specs.declared.counter.AckNackCounter.{AckNackCounter}
 use Rattle.writer_proxy.specs.declared.counter.HandedOut.{HandedOut}
-use Rattle.writer_proxy.specs.declared.Report.{Report}
-use Rattle.writer_proxy.specs.declared.Report.the-variants.{Refused}
 use Rattle.writer_proxy.specs.declared.missing.Listing.{Listing}
 use Rattle.writer_proxy.specs.declared.missing.Listing.the-variants.{Listed}
 use Rattle.writer_proxy.specs.declared.query.Status.{Status}
 use Rattle.writer_proxy.specs.declared.query.Last.{Last}
-use Rattle.writer_proxy.specs.Calls.{Reply, put, moveOn, cap, ended, lost, receivedAt, received, irrelevantAt, irrelevant, putEach, rangeAt, irrelevantRange, upTo, Answered}
 use Rattle.writer_proxy.specs.SetUp.{setUp}
 use Rattle.writer_proxy.specs.Queries.{ignored, statusOf, lastOf}
 use Rattle.writer_proxy.specs.Missing.{missing, lowest, missingOf, listed}
 use Rattle.writer_proxy.specs.Counter.{nextCount, fresh, handedOut}
 use Rattle.writer_proxy.specs.Statements.{Tracked, Ascending, NotTaken}
-use Rattle.writer_proxy.proofs.CallsLaws.{ok-begun, ok-received, ok-irrelevant, range-at-above, ok-range, base-received, base-irrelevant, base-range}
 use Rattle.writer_proxy.proofs.TrackedLaws.{has-tracked, not-tracked, moved-past, moved-stops}
 use Rattle.writer_proxy.proofs.MissingLaws.{listed-all, missing-has, missing-ascends}
 use Rattle.writer_proxy.proofs.CounterLaws.{next-wraps}

@@ -19,9 +19,9 @@ use Rattle.proxy_record.specs.Record.{markOf, stateOf, tracked, Good}
 use Rattle.proxy_record.proofs.EntriesLaws.{below-none}
 use Rattle.proxy_record.proofs.RecordLaws.{mark-same}
 use Rattle.proxy_record.proofs.RowLaws.{kind-word, time-word, number-word, place-row}
+use Rattle.proxy_core.specs.Calls.{cap}
 use Rattle.writer_proxy.specs.declared.query.Status.{Status}
 use Rattle.writer_proxy.specs.declared.query.Last.the-variants.{Nothing, Change}
-use Rattle.writer_proxy.specs.Calls.{cap}
 use Rattle.writer_proxy.specs.Queries.{look, given, has, ignored, shown, statusOf, lastOf}
 use Rattle.writer_proxy.specs.declared.query.Status.the-variants as Shown
 

@@ -13,10 +13,10 @@ use borrow.Author.Tests.{lt-ltb, le-ltb, ltb-true, le-leb, leb-true}
 use Rattle.sequence_number.specs.Number.{top, isNumber, natOf}
 use Rattle.sequence_number.proofs.Split.{split-lt}
 use Rattle.proxy_record.specs.State.{State}
-use Rattle.writer_proxy.specs.declared.Report.the-variants.{Refused}
-use Rattle.writer_proxy.specs.Calls.{Reply, noted, put, settled, refused, got, lost, receivedAt, irrelevantAt, skipped, putEach, rangeAt}
+use Rattle.proxy_core.specs.declared.Report.the-variants.{Refused}
+use Rattle.proxy_core.specs.Calls.{Reply, noted, put, settled, refused, got, lost, receivedAt, irrelevantAt, skipped, putEach, rangeAt}
+use Rattle.proxy_core.proofs.CallsLaws.{ended-accepted}
 use Rattle.writer_proxy.specs.Statements.{NotTaken}
-use Rattle.writer_proxy.proofs.CallsLaws.{ended-accepted}
 
 -- row 4 over an i64
 pub not-taken : (n : ℤ) → SFits w64 n → (isNumber n ≡ false) ↔ NotTaken n

@@ -12,10 +12,10 @@ use Rattle.proxy_record.specs.Record.{size, column, layout, recordOf, Good}
 use Rattle.proxy_record.proofs.ColumnLaws.{zeros-append}
 use Rattle.proxy_record.proofs.PartLaws.{laid-length}
 use Rattle.proxy_record.proofs.RecordLaws.{kept-of}
-use Rattle.writer_proxy.specs.declared.Report.the-variants.{Done, Refused}
+use Rattle.proxy_core.specs.declared.Report.the-variants.{Done, Refused}
+use Rattle.proxy_core.proofs.CallsLaws.{ok-begun}
+use Rattle.proxy_core.proofs.StepLaws.{good-of}
 use Rattle.writer_proxy.specs.SetUp.{setUp}
-use Rattle.writer_proxy.proofs.CallsLaws.{ok-begun}
-use Rattle.writer_proxy.proofs.StepLaws.{good-of}
 
 length-begun : length (recordOf begun) ≡ size
 length-begun = laid-length (kept-of begun (recordOf begun) (omega arith) refl)

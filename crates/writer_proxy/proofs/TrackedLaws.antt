@@ -12,7 +12,7 @@ use Rattle.sequence_number.proofs.Split.{split, split-lt, split-eq}
 use Rattle.proxy_record.specs.Entries.{Entry, Rising, from, runLen}
 use Rattle.proxy_record.specs.State.{State, Ok}
 use Rattle.proxy_record.proofs.EntriesLaws.{from-all}
-use Rattle.writer_proxy.specs.Calls.{moveOn}
+use Rattle.proxy_core.specs.Calls.{moveOn}
 use Rattle.writer_proxy.specs.Queries.{look, has}
 use Rattle.writer_proxy.specs.Statements.{Tracked}
 

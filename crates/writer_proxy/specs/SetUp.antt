@@ -7,8 +7,8 @@ use lib.Dec.{ltb}
 use Rattle.sequence_number.specs.Lent.{over}
 use Rattle.proxy_record.specs.State.{begun}
 use Rattle.proxy_record.specs.Record.{recordOf, size}
-use Rattle.writer_proxy.specs.declared.Report.{Report}
-use Rattle.writer_proxy.specs.declared.Report.the-variants.{Done, Refused}
+use Rattle.proxy_core.specs.declared.Report.{Report}
+use Rattle.proxy_core.specs.declared.Report.the-variants.{Done, Refused}
 
 -- the answer, and the lent words after the call
 pub record Begun : Type 0 where

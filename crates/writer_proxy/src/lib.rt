@@ -1,6 +1,5 @@
 // What came from one writer, what is missing, and what may be acknowledged: rustdds 0.15.1, src/rtps/rtps_writer_proxy.rs.
 // The record lies in 775 words that the caller lends; crate `proxy_record` has its layout.
-pub mod base;
 pub mod counter;
 pub mod irrelevant;
 pub mod missing;
@@ -9,9 +8,4 @@ pub mod query;
 pub mod received;
 pub mod set_up;
 
-// What became of a call: done, done with the base forced from one number to another, or refused with document 01's number.
-pub enum Report {
-    Done,
-    Forced(u64, u64),
-    Refused(u8),
-}
+pub use proxy_core::Report;

@@ -4,7 +4,7 @@ ghost use Prim.Native.Nat.{_≤_};
 ghost use lib.ListN.{length, take};
 ghost use Rattle.proxy_record.specs.Record.{Good, size};
 ghost use Rattle.writer_proxy.specs.SetUp.{setUp};
-use crate::Report;
+use proxy_core::Report;
 use proxy_record::BASE;
 use proxy_record::WORDS;
 use proxy_record::column;

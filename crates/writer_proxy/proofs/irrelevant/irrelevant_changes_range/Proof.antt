@@ -1,8 +1,8 @@
 use native.Mathlib.Omega.{arith}
 use mathlib.Core.Bool.{true, false}
 use borrow.Author.Needs.{needs}
-use Rattle.writer_proxy.proofs.NatLaws.{nat-top, nat-passed, order-passed}
-use Rattle.writer_proxy.proofs.IrrelevantLaws.{range-refused, range-keeps, range-order, range-skips, range-above-base, range-puts}
+use Rattle.proxy_core.proofs.NatLaws.{nat-top, nat-passed, order-passed}
+use Rattle.proxy_core.proofs.RangeStepLaws.{range-refused, range-keeps, range-order, range-skips, range-above-base, range-puts}
 use Rattle.writer_proxy.proofs.irrelevant.irrelevant_changes_range.Statement.{statement}
 use Rattle.writer_proxy.proofs.irrelevant.irrelevant_changes_range.Tie as tie
 

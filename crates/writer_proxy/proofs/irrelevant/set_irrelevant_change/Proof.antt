@@ -3,9 +3,9 @@ use native.Mathlib.Omega.{arith}
 use mathlib.Core.Path.{refl, sym}
 use borrow.Author.Needs.{needs}
 use Rattle.proxy_record.specs.Record.{stateOf}
-use Rattle.writer_proxy.specs.Calls.{cap, refused, irrelevantAt, irrelevant}
-use Rattle.writer_proxy.proofs.CallsLaws.{irrelevant-old, irrelevant-new}
-use Rattle.writer_proxy.proofs.StepLaws.{answered, base-word, taken-below, taken-is, taken-not, irrelevant-keeps}
+use Rattle.proxy_core.specs.Calls.{cap, refused, irrelevantAt, irrelevant}
+use Rattle.proxy_core.proofs.CallsLaws.{irrelevant-old, irrelevant-new}
+use Rattle.proxy_core.proofs.StepLaws.{answered, base-word, taken-below, taken-is, taken-not, irrelevant-keeps}
 use Rattle.writer_proxy.proofs.irrelevant.set_irrelevant_change.Statement.{statement}
 use Rattle.writer_proxy.proofs.irrelevant.set_irrelevant_change.Tie as tie
 

@@ -3,7 +3,7 @@ use mathlib.Core.Path.{sym, ap, _∙_}
 use lib.ListN.{length}
 use borrow.Author.Needs.{needs}
 use Rattle.proxy_record.specs.Record.{stateOf}
-use Rattle.writer_proxy.proofs.NatLaws.{nat-top, nat-passed}
+use Rattle.proxy_core.proofs.NatLaws.{nat-top, nat-passed}
 use Rattle.writer_proxy.proofs.MissingLaws.{listed-last, listed-short, listed-all, end-open, ends-order, ends-list}
 use Rattle.writer_proxy.proofs.missing.missing_seqnums.Statement.{statement}
 use Rattle.writer_proxy.proofs.missing.missing_seqnums.Tie as tie

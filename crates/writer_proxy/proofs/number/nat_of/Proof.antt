@@ -6,7 +6,7 @@ use lib.Signed.{ltZ}
 use mir.Syntax.{w64}
 use mir.Val.{ofZ, toZ}
 use mir.Facts.{toZ-ofZ}
-use Rattle.writer_proxy.proofs.NatLaws.{nat-neg, nat-good}
+use Rattle.proxy_core.proofs.NatLaws.{nat-neg, nat-good}
 use Rattle.writer_proxy.proofs.number.nat_of.Statement.{statement}
 use Rattle.writer_proxy.proofs.number.nat_of.Tie as tie
 

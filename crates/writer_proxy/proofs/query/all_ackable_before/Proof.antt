@@ -1,7 +1,7 @@
 use native.Mathlib.Omega.{arith}
 use borrow.Author.Needs.{needs}
-use Rattle.writer_proxy.specs.Calls.{cap}
-use Rattle.writer_proxy.proofs.StepLaws.{base-word}
+use Rattle.proxy_core.specs.Calls.{cap}
+use Rattle.proxy_core.proofs.StepLaws.{base-word}
 use Rattle.writer_proxy.proofs.query.all_ackable_before.Statement.{statement}
 use Rattle.writer_proxy.proofs.query.all_ackable_before.Tie as tie
 

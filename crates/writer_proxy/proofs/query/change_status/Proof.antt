@@ -2,9 +2,9 @@ use Prim.Native.Nat.{ℕ}
 use mathlib.Core.Path.{ap, _∙_}
 use borrow.Author.Needs.{needs}
 use Rattle.proxy_record.specs.Record.{stateOf, tracked}
-use Rattle.writer_proxy.specs.Calls.{cap}
+use Rattle.proxy_core.specs.Calls.{cap}
+use Rattle.proxy_core.proofs.NatLaws.{nat-passed}
 use Rattle.writer_proxy.specs.Queries.{look, shown}
-use Rattle.writer_proxy.proofs.NatLaws.{nat-passed}
 use Rattle.writer_proxy.proofs.QueryLaws.{status-nat}
 use Rattle.writer_proxy.proofs.query.change_status.Statement.{statement}
 use Rattle.writer_proxy.proofs.query.change_status.Tie as tie

@@ -3,7 +3,7 @@ use borrow.Author.Needs.{needs}
 use Rattle.proxy_record.specs.Record.{stateOf}
 use Rattle.proxy_record.proofs.PartLaws.{last-at, time-at}
 use Rattle.proxy_record.proofs.RecordLaws.{good-kept}
-use Rattle.writer_proxy.specs.Calls.{cap}
+use Rattle.proxy_core.specs.Calls.{cap}
 use Rattle.writer_proxy.proofs.QueryLaws.{last-none, last-some}
 use Rattle.writer_proxy.proofs.query.last_change.Statement.{statement}
 use Rattle.writer_proxy.proofs.query.last_change.Tie as tie

@@ -3,9 +3,9 @@ use mathlib.Core.Path.{ap}
 use mathlib.Core.Bool.{true, false}
 use borrow.Author.Needs.{needs}
 use Rattle.proxy_record.specs.Record.{stateOf}
-use Rattle.writer_proxy.specs.Calls.{cap}
-use Rattle.writer_proxy.proofs.NatLaws.{nat-passed}
-use Rattle.writer_proxy.proofs.StepLaws.{base-word}
+use Rattle.proxy_core.specs.Calls.{cap}
+use Rattle.proxy_core.proofs.NatLaws.{nat-passed}
+use Rattle.proxy_core.proofs.StepLaws.{base-word}
 use Rattle.writer_proxy.proofs.QueryLaws.{isShown, ignored-low, ignored-by}
 use Rattle.writer_proxy.proofs.query.should_ignore_change.Statement.{statement}
 use Rattle.writer_proxy.proofs.query.should_ignore_change.Tie as tie

@@ -1,7 +1,7 @@
 use borrow.Author.Needs.{needs}
 use Rattle.proxy_record.specs.Record.{stateOf}
-use Rattle.writer_proxy.specs.Calls.{refused, receivedAt, received}
-use Rattle.writer_proxy.proofs.StepLaws.{received-keeps, taken-below, taken-is, taken-not}
+use Rattle.proxy_core.specs.Calls.{refused, receivedAt, received}
+use Rattle.proxy_core.proofs.StepLaws.{received-keeps, taken-below, taken-is, taken-not}
 use Rattle.writer_proxy.proofs.received.received_changes_add.Statement.{statement}
 use Rattle.writer_proxy.proofs.received.received_changes_add.Tie as tie
 

@@ -1,4 +1,4 @@
--- The steps of `base` and `received` in place: what the record is after each, in the words of the code. Assumes nothing.
+-- The steps of `base` and `received` in place: what the record is after each, in the words of the code, and what a call makes of a number. Assumes nothing.
 use Prim.Native.Nat.{ℕ, zero, suc, _+_, _-_, _<_, _≤_, max}
 use native.Mathlib.Omega.{arith}
 use mathlib.Core.Logic.{⊎-elim}
@@ -20,10 +20,10 @@ use Rattle.proxy_record.proofs.EntriesLaws.{rising-top, from-all, run-bound, fr
 use Rattle.proxy_record.proofs.PartLaws.{base-at, last-at, base-laid, last-laid, time-laid}
 use Rattle.proxy_record.proofs.RecordLaws.{kept-of, good-kept, of-laid, state-of, good-is}
 use Rattle.proxy_record.proofs.RowLaws.{number-word}
-use Rattle.writer_proxy.specs.declared.Report.{Report}
-use Rattle.writer_proxy.specs.declared.Report.the-variants.{Done, Forced, Refused}
-use Rattle.writer_proxy.specs.Calls.{Reply, noted, put, moveOn, discard, settled, cap, capped, ended, refused, got, receivedAt, received, irrelevant, Answered}
-use Rattle.writer_proxy.proofs.CallsLaws.{ok-more, ok-noted, ok-put, ok-advanced, settled-old, settled-at, settled-other, settled-first, ended-few, lowest-gone, noted-kept, received-is, ok-received, ok-irrelevant}
+use Rattle.proxy_core.specs.declared.Report.{Report}
+use Rattle.proxy_core.specs.declared.Report.the-variants.{Done, Forced, Refused}
+use Rattle.proxy_core.specs.Calls.{Reply, noted, put, moveOn, discard, settled, cap, capped, ended, refused, got, receivedAt, received, irrelevant, Answered}
+use Rattle.proxy_core.proofs.CallsLaws.{ok-more, ok-noted, ok-put, ok-advanced, settled-old, settled-at, settled-other, settled-first, ended-few, lowest-gone, noted-kept, received-is, ok-received, ok-irrelevant}
 
 -- what a call answers and leaves is what a reply says
 pub answered : (r : Report) (o : List ℕ) (x y : Reply) → x ≡ y → Answered r o x → Answered r o y

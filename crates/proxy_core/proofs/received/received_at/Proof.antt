@@ -1,7 +1,7 @@
 use borrow.Author.Needs.{needs}
-use Rattle.writer_proxy.proofs.StepLaws.{received-first}
-use Rattle.writer_proxy.proofs.received.received_at.Statement.{statement}
-use Rattle.writer_proxy.proofs.received.received_at.Tie as tie
+use Rattle.proxy_core.proofs.StepLaws.{received-first}
+use Rattle.proxy_core.proofs.received.received_at.Statement.{statement}
+use Rattle.proxy_core.proofs.received.received_at.Tie as tie
 
 slice-read-if1 : tie.Need-slice-read-if1
 slice-read-if1 c = search needs

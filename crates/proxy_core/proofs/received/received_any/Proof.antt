@@ -1,10 +1,10 @@
 use native.Mathlib.Omega.{arith}
 use mathlib.Core.Path.{refl}
 use borrow.Author.Needs.{needs}
-use Rattle.writer_proxy.specs.Calls.{cap}
-use Rattle.writer_proxy.proofs.StepLaws.{base-word, noted-good, received-old, received-above}
-use Rattle.writer_proxy.proofs.received.received_any.Statement.{statement}
-use Rattle.writer_proxy.proofs.received.received_any.Tie as tie
+use Rattle.proxy_core.specs.Calls.{cap}
+use Rattle.proxy_core.proofs.StepLaws.{base-word, noted-good, received-old, received-above}
+use Rattle.proxy_core.proofs.received.received_any.Statement.{statement}
+use Rattle.proxy_core.proofs.received.received_any.Tie as tie
 
 note-requires : tie.Need-note-requires
 note-requires c κs = search needs

@@ -13,8 +13,8 @@ use Rattle.sequence_number.proofs.Split.{split-lt}
 use Rattle.proxy_record.specs.Entries.{Entry, blank, Rising, below, from, rank, putIn}
 use Rattle.proxy_record.specs.State.{State, changed}
 use Rattle.proxy_record.proofs.EntriesLaws.{rising-weaken, below-none, from-skip, below-take, from-drop, rank-within, rising-from, rising-put}
-use Rattle.writer_proxy.specs.declared.Report.the-variants.{Forced}
-use Rattle.writer_proxy.specs.Calls.{put, cap, trim, capped, ended, lost, putEach}
+use Rattle.proxy_core.specs.declared.Report.the-variants.{Forced}
+use Rattle.proxy_core.specs.Calls.{put, cap, trim, capped, ended, lost, putEach}
 
 -- the k numbers from a on, not available
 unfoldable pub gone : ℕ → ℕ → List Entry

@@ -1,10 +1,10 @@
 use native.Mathlib.Omega.{arith}
 use lib.ListN.{length-set}
 use borrow.Author.Needs.{needs}
-use Rattle.writer_proxy.proofs.StepLaws.{good-more}
-use Rattle.writer_proxy.proofs.IrrelevantLaws.{skip-none, skip-good, skip-some}
-use Rattle.writer_proxy.proofs.irrelevant.skip_to.Statement.{statement}
-use Rattle.writer_proxy.proofs.irrelevant.skip_to.Tie as tie
+use Rattle.proxy_core.proofs.StepLaws.{good-more}
+use Rattle.proxy_core.proofs.RangeStepLaws.{skip-none, skip-good, skip-some}
+use Rattle.proxy_core.proofs.range.skip_to.Statement.{statement}
+use Rattle.proxy_core.proofs.range.skip_to.Tie as tie
 
 slice-read-if1 : tie.Need-slice-read-if1
 slice-read-if1 c = search needs

@@ -3,7 +3,7 @@ ghost use mathlib.Core.Path.{_≡_};
 ghost use Prim.Native.Nat.{_<_, _≤_};
 ghost use Rattle.sequence_number.specs.Number.{top};
 ghost use Rattle.proxy_record.specs.Record.{GoodUpTo, Good, Marks, entryOf, recordOf, stateOf};
-ghost use Rattle.writer_proxy.specs.Calls.{noted, put, moveOn, discard, settled, ended, Answered};
+ghost use Rattle.proxy_core.specs.Calls.{noted, put, moveOn, discard, settled, ended, Answered};
 use crate::Report;
 use proxy_record::BASE;
 use proxy_record::COUNT;

@@ -1,8 +1,8 @@
 use borrow.Author.Needs.{needs}
 use Rattle.proxy_record.specs.Record.{entryOf}
-use Rattle.writer_proxy.proofs.StepLaws.{put-good, track-above, advanced-good, track-base}
-use Rattle.writer_proxy.proofs.base.track.Statement.{statement}
-use Rattle.writer_proxy.proofs.base.track.Tie as tie
+use Rattle.proxy_core.proofs.StepLaws.{put-good, track-above, advanced-good, track-base}
+use Rattle.proxy_core.proofs.base.track.Statement.{statement}
+use Rattle.proxy_core.proofs.base.track.Tie as tie
 
 slice-read-base : tie.Need-slice-read-base
 slice-read-base c = search needs

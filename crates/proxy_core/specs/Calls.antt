@@ -11,8 +11,8 @@ use Rattle.sequence_number.specs.Number.{isNumber, natOf}
 use Rattle.proxy_record.specs.Entries.{Entry, NotAvailable, Received, below, from, putIn, runLen}
 use Rattle.proxy_record.specs.State.{State, changed}
 use Rattle.proxy_record.specs.Record.{recordOf}
-use Rattle.writer_proxy.specs.declared.Report.{Report}
-use Rattle.writer_proxy.specs.declared.Report.the-variants.{Done, Forced, Refused}
+use Rattle.proxy_core.specs.declared.Report.{Report}
+use Rattle.proxy_core.specs.declared.Report.the-variants.{Done, Forced, Refused}
 
 -- The steps
 

@@ -1,8 +1,8 @@
--- `writer_proxy::base::note` meets its contract: the two words are written where the number is greater. Assumes nothing.
+-- `proxy_core::base::note` meets its contract: the two words are written where the number is greater. Assumes nothing.
 use borrow.Author.Needs.{needs}
-use Rattle.writer_proxy.proofs.StepLaws.{note-new, note-old}
-use Rattle.writer_proxy.proofs.base.note.Statement.{statement}
-use Rattle.writer_proxy.proofs.base.note.Tie as tie
+use Rattle.proxy_core.proofs.StepLaws.{note-new, note-old}
+use Rattle.proxy_core.proofs.base.note.Statement.{statement}
+use Rattle.proxy_core.proofs.base.note.Tie as tie
 
 slice-read-if1 : tie.Need-slice-read-if1
 slice-read-if1 c = search needs

@@ -2,9 +2,9 @@ use Prim.Native.Nat.{_-_, _≤_}
 use native.Mathlib.Omega.{arith}
 use mathlib.Core.Path.{_≡_, refl}
 use borrow.Author.Needs.{needs}
-use Rattle.writer_proxy.proofs.IrrelevantLaws.{Filling, fill-none, fill-more, fill-end}
-use Rattle.writer_proxy.proofs.irrelevant.fill.Statement.{statement}
-use Rattle.writer_proxy.proofs.irrelevant.fill.Tie as tie
+use Rattle.proxy_core.proofs.RangeStepLaws.{Filling, fill-none, fill-more, fill-end}
+use Rattle.proxy_core.proofs.range.fill.Statement.{statement}
+use Rattle.proxy_core.proofs.range.fill.Tie as tie
 
 abbrev Inv-loop : tie.InvT-loop
 Inv-loop t₀ a m i₀ t i = (i ≤ m) × Filling t₀ t a m i

@@ -19,9 +19,9 @@ use Rattle.sequence_number.proofs.NumberLaws.{number-is}
 use Rattle.proxy_record.specs.Entries.{Entry, blank, Rising, below, from, putIn, runLen}
 use Rattle.proxy_record.specs.State.{State, Ok, begun, changed}
 use Rattle.proxy_record.proofs.EntriesLaws.{below-none, from-all, from-drop, rising-from, rising-put, length-put, from-put, run-bound, from-run}
-use Rattle.writer_proxy.specs.declared.Report.the-variants.{Done, Refused}
-use Rattle.writer_proxy.specs.Calls.{noted, put, rebased, moveOn, discard, settled, cap, lowestGone, trim, capped, ended, got, lost, receivedAt, received, irrelevantAt, irrelevant, without, skipped, putEach, rangeAt, irrelevantRange}
-use Rattle.writer_proxy.proofs.NatLaws.{nat-top, nat-order}
+use Rattle.proxy_core.specs.declared.Report.the-variants.{Done, Refused}
+use Rattle.proxy_core.specs.Calls.{noted, put, rebased, moveOn, discard, settled, cap, lowestGone, trim, capped, ended, got, lost, receivedAt, received, irrelevantAt, irrelevant, without, skipped, putEach, rangeAt, irrelevantRange}
+use Rattle.proxy_core.proofs.NatLaws.{nat-top, nat-order}
 
 -- The rules
 

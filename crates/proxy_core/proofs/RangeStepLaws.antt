@@ -1,4 +1,4 @@
--- The functions of `irrelevant` in place, in the words of the code. Assumes nothing.
+-- A range in place: what the record is after each function of `range`, and which way of `irrelevant_changes_range` is which. Assumes nothing.
 use Prim.Native.Nat.{ℕ, suc, _+_, _-_, _<_, _≤_}
 use native.Mathlib.Omega.{arith}
 use native.Mathlib.Nat.{add-zero, sub-zero, sub-self}
@@ -21,13 +21,13 @@ use Rattle.proxy_record.proofs.EntriesLaws.{rising-any, from-drop, rank-within,
 use Rattle.proxy_record.proofs.PartLaws.{base-laid}
 use Rattle.proxy_record.proofs.RecordLaws.{kept-of, of-laid, state-of}
 use Rattle.proxy_record.proofs.RowLaws.{number-word, place-row}
-use Rattle.writer_proxy.specs.declared.Report.{Report}
-use Rattle.writer_proxy.specs.declared.Report.the-variants.{Done, Forced, Refused}
-use Rattle.writer_proxy.specs.Calls.{put, rebased, moveOn, discard, cap, ended, lost, skipped, putEach, rangeAt, irrelevantRange, Answered}
-use Rattle.writer_proxy.proofs.NatLaws.{nat-top, nat-order}
-use Rattle.writer_proxy.proofs.CallsLaws.{ok-put, ended-few, skipped-none, skipped-some, ok-cut, skipped-same, range-at-low, range-at-above, ok-range}
-use Rattle.writer_proxy.proofs.RangeLaws.{gone, rangeIn, rising-range, length-range, each-is, each-more, ended-many, get-low, drop-high, get-high, range-drop, rising-drop, range-from}
-use Rattle.writer_proxy.proofs.StepLaws.{answered, good-of, base-word, good-more}
+use Rattle.proxy_core.specs.declared.Report.{Report}
+use Rattle.proxy_core.specs.declared.Report.the-variants.{Done, Forced, Refused}
+use Rattle.proxy_core.specs.Calls.{put, rebased, moveOn, discard, cap, ended, lost, skipped, putEach, rangeAt, irrelevantRange, Answered}
+use Rattle.proxy_core.proofs.NatLaws.{nat-top, nat-order}
+use Rattle.proxy_core.proofs.CallsLaws.{ok-put, ended-few, skipped-none, skipped-some, ok-cut, skipped-same, range-at-low, range-at-above, ok-range}
+use Rattle.proxy_core.proofs.RangeLaws.{gone, rangeIn, rising-range, length-range, each-is, each-more, ended-many, get-low, drop-high, get-high, range-drop, rising-drop, range-from}
+use Rattle.proxy_core.proofs.StepLaws.{answered, good-of, base-word, good-more}
 
 -- entries at the front go, and c is the base
 abbrev pub cutState : List ℕ → ℕ → ℕ → State

@@ -1,9 +1,9 @@
--- `writer_proxy::base::advance_ack_base` meets its contract: the run from the base on is what the base passes, and what goes. Assumes nothing.
+-- `proxy_core::base::advance_ack_base` meets its contract: the run from the base on is what the base passes, and what goes. Assumes nothing.
 use native.Mathlib.Omega.{arith}
 use borrow.Author.Needs.{needs}
-use Rattle.writer_proxy.proofs.StepLaws.{base-low, advance-fits, advanced}
-use Rattle.writer_proxy.proofs.base.advance_ack_base.Statement.{statement}
-use Rattle.writer_proxy.proofs.base.advance_ack_base.Tie as tie
+use Rattle.proxy_core.proofs.StepLaws.{base-low, advance-fits, advanced}
+use Rattle.proxy_core.proofs.base.advance_ack_base.Statement.{statement}
+use Rattle.proxy_core.proofs.base.advance_ack_base.Tie as tie
 
 slice-read-base : tie.Need-slice-read-base
 slice-read-base c = search needs

@@ -1,13 +1,13 @@
--- `writer_proxy::irrelevant::range_above` meets its contract: what the cap drops is known before anything is put, so that at most 256 numbers are.
+-- `proxy_core::range::range_above` meets its contract: what the cap drops is known before anything is put, so that at most 256 numbers are.
 -- Assumes nothing.
 use native.Mathlib.Omega.{arith}
 use mathlib.Core.Path.{refl}
 use lib.ListN.{length-set}
 use borrow.Author.Needs.{needs}
-use Rattle.writer_proxy.proofs.StepLaws.{good-more}
-use Rattle.writer_proxy.proofs.IrrelevantLaws.{room-few, range-few, low-below, room-low, range-low, room-high, range-high}
-use Rattle.writer_proxy.proofs.irrelevant.range_above.Statement.{statement}
-use Rattle.writer_proxy.proofs.irrelevant.range_above.Tie as tie
+use Rattle.proxy_core.proofs.StepLaws.{good-more}
+use Rattle.proxy_core.proofs.RangeStepLaws.{room-few, range-few, low-below, room-low, range-low, room-high, range-high}
+use Rattle.proxy_core.proofs.range.range_above.Statement.{statement}
+use Rattle.proxy_core.proofs.range.range_above.Tie as tie
 
 slice-read-old : tie.Need-slice-read-old
 slice-read-old c = search needs

@@ -1,10 +1,10 @@
--- `writer_proxy::base::enforce_change_map_cap` meets its contract: 257 are tracked at most, so one step is enough. Assumes nothing.
+-- `proxy_core::base::enforce_change_map_cap` meets its contract: 257 are tracked at most, so one step is enough. Assumes nothing.
 use native.Mathlib.Omega.{arith}
 use mathlib.Core.Logic.{⊎-elim}
 use borrow.Author.Needs.{needs}
-use Rattle.writer_proxy.proofs.StepLaws.{cap-none, cap-top, cap-one}
-use Rattle.writer_proxy.proofs.base.enforce_change_map_cap.Statement.{statement}
-use Rattle.writer_proxy.proofs.base.enforce_change_map_cap.Tie as tie
+use Rattle.proxy_core.proofs.StepLaws.{cap-none, cap-top, cap-one}
+use Rattle.proxy_core.proofs.base.enforce_change_map_cap.Statement.{statement}
+use Rattle.proxy_core.proofs.base.enforce_change_map_cap.Tie as tie
 
 slice-read-len : tie.Need-slice-read-len
 slice-read-len c = search needs
