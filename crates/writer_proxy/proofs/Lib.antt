@@ -1,6 +1,7 @@
 pub mod QueryLaws
 pub mod SetUpLaws
 pub mod TrackedLaws
+pub mod ShownLaws
 pub mod MissingLaws
 pub mod CounterLaws
 pub mod Refusals

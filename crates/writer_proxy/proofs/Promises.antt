@@ -4,7 +4,8 @@ use Prim.Native.Nat.{ℕ, suc, _+_, _-_, _%_, _<_, _≤_}
 use native.Mathlib.Omega.{arith}
 use mathlib.Core.Logic.{_⊎_, inl, inr, ⊎-elim, _↔_}
 use mathlib.Core.Path.{_≡_, refl, sym, ap, _∙_}
-use mathlib.Core.Bool.{Bool, true, false}
+use mathlib.Core.Bool.{Bool, true, false, cond}
+use mathlib.Core.Option.{none, some}
 use mathlib.Core.List.{List, [], map, List·Memᴰ}
 use lib.ListN.{length}
 use lib.Dec.{ltb, eqb}
@@ -16,12 +17,13 @@ use borrow.Author.Tests.{lt-ltb, le-ltb, eq-eqb, ne-eqb}
 use Rattle.sequence_number.specs.Number.{top, isNumber, natOf}
 use Rattle.sequence_number.specs.Lent.{over}
 use Rattle.sequence_number.proofs.Split.{split, split-lt, split-eq}
+use Rattle.proxy_record.specs.Entries.{Entry, NotAvailable}
 use Rattle.proxy_record.specs.State.{State, Ok, begun}
 use Rattle.proxy_record.specs.Record.{size, recordOf, stateOf}
 use Rattle.proxy_record.proofs.RecordLaws.{state-of}
 use Rattle.proxy_core.specs.declared.Report.{Report}
 use Rattle.proxy_core.specs.declared.Report.the-variants.{Refused}
-use Rattle.proxy_core.specs.Calls.{Reply, put, moveOn, cap, ended, lost, receivedAt, received, irrelevantAt, irrelevant, putEach, rangeAt, irrelevantRange, upTo, Answered}
+use Rattle.proxy_core.specs.Calls.{Reply, put, moveOn, discard, cap, ended, lost, receivedAt, received, irrelevantAt, irrelevant, putEach, rangeAt, irrelevantRange, upTo, Answered}
 use Rattle.proxy_core.proofs.CallsLaws.{ok-begun, ok-received, ok-irrelevant, range-at-above, ok-range, base-received, base-irrelevant, base-range}
 use Rattle.writer_proxy.specs.declared.counter.AckNackCounter.{AckNackCounter}
 use Rattle.writer_proxy.specs.declared.counter.HandedOut.{HandedOut}
@@ -30,14 +32,16 @@ use Rattle.writer_proxy.specs.declared.missing.Listing.the-variants.{Lis
 use Rattle.writer_proxy.specs.declared.query.Status.{Status}
 use Rattle.writer_proxy.specs.declared.query.Last.{Last}
 use Rattle.writer_proxy.specs.SetUp.{setUp}
-use Rattle.writer_proxy.specs.Queries.{ignored, statusOf, lastOf}
+use Rattle.writer_proxy.specs.Queries.{look, ignored, statusOf, lastOf}
 use Rattle.writer_proxy.specs.Missing.{missing, lowest, missingOf, listed}
 use Rattle.writer_proxy.specs.Counter.{nextCount, fresh, handedOut}
 use Rattle.writer_proxy.specs.Statements.{Tracked, Ascending, NotTaken}
+use Rattle.writer_proxy.specs.Answers.{refusalOf, listingRefusalOf}
 use Rattle.writer_proxy.proofs.TrackedLaws.{has-tracked, not-tracked, moved-past, moved-stops}
+use Rattle.writer_proxy.proofs.ShownLaws.{look-put, look-kept, look-each-out, look-each-in}
 use Rattle.writer_proxy.proofs.MissingLaws.{listed-all, missing-has, missing-ascends}
 use Rattle.writer_proxy.proofs.CounterLaws.{next-wraps}
-use Rattle.writer_proxy.proofs.Refusals.{not-taken, refused-unless, refused-if, unless-same, if-same, received-accepted, irrelevant-accepted, range-accepted, end-top, start-low, end-high, crossed}
+use Rattle.writer_proxy.proofs.Refusals.{not-taken, refused-unless, refused-if, unless-same, if-same, received-accepted, irrelevant-accepted, range-accepted, end-top, start-low, end-high, crossed, received-number-at, irrelevant-number-at, range-number-at}
 use Rattle.writer_proxy.specs.declared.missing.Listing.the-variants as Listing
 
 -- "their own rules hold, shown kept by every call": among them "Never more than 256 numbers are tracked after a call"
@@ -76,6 +80,24 @@ up-to-lifts-base = base-range (pos 0)
 -- "the base moves to the first untracked number"
 pub first-untracked : (m : ℕ) (s : State) → Ok m s → ((n : ℕ) → s .base ≤ n → n < moveOn s .base → Tracked n (s .tracked)) × (Tracked (moveOn s .base) (s .tracked) → ⊥)
 first-untracked m s o = (λ n. moved-past n s, moved-stops m s o)
+
+-- What the table says of each number m after a step
+
+-- "put .. over what was there"
+pub put-shows : (m : ℕ) (e : Entry) (s : State) → look m (put e s .tracked) ≡ cond (eqb (e .number) m) (some (e .mark)) (look m (s .tracked))
+put-shows m e s = look-put m e (s .tracked)
+
+-- "tracked numbers below the base go"
+pub discard-shows : (m : ℕ) (s : State) → look m (discard s .tracked) ≡ cond (ltb m (s .base)) none (look m (s .tracked))
+unfolding discard
+discard-shows m s = look-kept m (s .base) (s .tracked)
+
+-- "each is put not available": the k numbers from a on, and no other
+pub puts-show : (k a m : ℕ) (s : State) → a ≤ m → m < a + k → look m (putEach a k s .tracked) ≡ some NotAvailable
+puts-show = look-each-in
+
+pub puts-keep : (k a m : ℕ) (s : State) → (m < a) ⊎ (a + k ≤ m) → look m (putEach a k s .tracked) ≡ look m (s .tracked)
+puts-keep = look-each-out
 
 -- "Ignore holds exactly for a number below the base or tracked"
 pub ignore-exact : (n : ℤ) (s : State) → (ignored n s ≡ true) ↔ ((ltZ n (pos (s .base)) ≡ true) ⊎ Tracked (natOf n) (s .tracked))
@@ -129,6 +151,34 @@ unfolding putEach
 puts-one-by-one a k s = (refl, refl)
 
 -- Refusals: "Given exactly when", and then state and output are untouched
+
+-- the refusal number of each call's answer, 0 where it is accepted
+pub received-number : (n : ℤ) (t : ℕ) (s : State) → refusalOf (received n t s .report) ≡ cond (isNumber n) 0 4
+unfolding received
+received-number n t s = split (isNumber n) (λ e. rw e (received-number-at (natOf n) t s)) (λ e. rw e)
+
+pub irrelevant-number : (n : ℤ) (s : State) → refusalOf (irrelevant n s .report) ≡ cond (isNumber n) 0 4
+unfolding irrelevant
+irrelevant-number n s = split (isNumber n) (λ e. rw e (irrelevant-number-at (natOf n) s)) (λ e. rw e)
+
+pub range-number : (a b : ℤ) (s : State) → refusalOf (irrelevantRange a b s .report) ≡ cond (ltZ b a) 5 0
+unfolding irrelevantRange
+range-number a b s = split (ltZ b a) (λ e. rw e) (λ e. rw e (range-number-at (natOf a) (natOf b) s))
+
+pub up-to-number : (n : ℤ) (s : State) → refusalOf (upTo n s .report) ≡ cond (ltZ n (pos 0)) 5 0
+up-to-number n = range-number (pos 0) n
+
+pub missing-number : (start end : ℤ) (s : State) (out : List ℤ)
+    → listingRefusalOf (listed start end s out .answer) ≡ cond (eqb (natOf end) top) 4 (cond (ltb (length out) (length (missingOf start end s))) 3 0)
+unfolding listed
+missing-number start end s out =
+    split (eqb (natOf end) top)
+    (λ e. rw e)
+    (λ e. rw e (split (ltb (length out) (length (missingOf start end s))) (λ a. rw a) (λ a. rw a)))
+
+pub set-up-number : (w : List ℕ) → refusalOf (setUp w .report) ≡ cond (ltb (length w) size) 3 0
+unfolding setUp
+set-up-number w = split (ltb (length w) size) (λ e. rw e) (λ e. rw e)
 
 -- 4: "number below 1 or equal to 2^63 - 1 in received, one irrelevant"
 module _ (n : ℤ) (f : SFits w64 n) (s : State) where

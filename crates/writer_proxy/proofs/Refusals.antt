@@ -4,6 +4,7 @@ use native.Mathlib.Omega.{arith}
 use mathlib.Core.Logic.{inl, inr, ⊎-elim, _↔_}
 use mathlib.Core.Path.{_≡_, refl, sym, ap}
 use mathlib.Core.Bool.{Bool, true, false, cond}
+use lib.ListN.{length}
 use lib.Dec.{ltb, leb}
 use lib.IntN.{ℤ, pos, negsuc}
 use lib.Signed.{ltZ, leZ}
@@ -11,12 +12,13 @@ use mir.Syntax.{w64}
 use mir.Val.{SFits}
 use borrow.Author.Tests.{lt-ltb, le-ltb, ltb-true, le-leb, leb-true}
 use Rattle.sequence_number.specs.Number.{top, isNumber, natOf}
-use Rattle.sequence_number.proofs.Split.{split-lt}
+use Rattle.sequence_number.proofs.Split.{split, split-lt}
 use Rattle.proxy_record.specs.State.{State}
 use Rattle.proxy_core.specs.declared.Report.the-variants.{Refused}
-use Rattle.proxy_core.specs.Calls.{Reply, noted, put, settled, refused, got, lost, receivedAt, irrelevantAt, skipped, putEach, rangeAt}
+use Rattle.proxy_core.specs.Calls.{Reply, noted, put, settled, cap, ended, refused, got, lost, receivedAt, irrelevantAt, skipped, putEach, rangeAt}
 use Rattle.proxy_core.proofs.CallsLaws.{ended-accepted}
 use Rattle.writer_proxy.specs.Statements.{NotTaken}
+use Rattle.writer_proxy.specs.Answers.{refusalOf}
 
 -- row 4 over an i64
 pub not-taken : (n : ℤ) → SFits w64 n → (isNumber n ≡ false) ↔ NotTaken n
@@ -80,3 +82,20 @@ pub crossed : (a b : ℤ) (m : ℕ) → 1 ≤ m → ltZ b a ≡ true → suc (na
 crossed (pos a) (pos b) m h e = omega (arith, ltb-true b a e)
 crossed (negsuc a) (pos b) m h e = let z : _≡_ {A = ℕ} 0 1 = cc in absurd (omega arith)
 crossed a (negsuc b) m h e = omega arith
+
+-- the number that document 01 gives
+ended-number : (s : State) → refusalOf (ended s .report) ≡ 0
+unfolding ended
+ended-number s = split (ltb cap (length (s .tracked))) (λ e. rw e) (λ e. rw e)
+
+pub received-number-at : (n t : ℕ) (s : State) → refusalOf (receivedAt n t s .report) ≡ 0
+unfolding receivedAt
+received-number-at n t s = ended-number (settled n (put (got n t) (noted n t s)))
+
+pub irrelevant-number-at : (n : ℕ) (s : State) → refusalOf (irrelevantAt n s .report) ≡ 0
+unfolding irrelevantAt
+irrelevant-number-at n s = ended-number (settled n (cond (ltb n (s .base)) s (put (lost n) s)))
+
+pub range-number-at : (a b : ℕ) (s : State) → refusalOf (rangeAt a b s .report) ≡ 0
+unfolding rangeAt
+range-number-at a b s = ended-number (cond (leb a (s .base)) (skipped a b s) (putEach a (b - a) s))

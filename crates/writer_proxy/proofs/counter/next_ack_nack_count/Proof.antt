@@ -1,3 +1,4 @@
+-- `writer_proxy::counter::next_ack_nack_count` meets its contract by what `next_count` ensures. Assumes nothing.
 use borrow.Author.Needs.{needs}
 use Rattle.writer_proxy.proofs.CounterLaws.{handed}
 use Rattle.writer_proxy.proofs.counter.next_ack_nack_count.Statement.{statement}

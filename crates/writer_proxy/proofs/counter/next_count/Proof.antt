@@ -1,3 +1,4 @@
+-- `writer_proxy::counter::next_count` meets its contract: 1 more, but for the greatest count. Assumes nothing.
 use mir.Facts.{toZ-ofZ}
 use Rattle.writer_proxy.proofs.CounterLaws.{count-greatest, count-other, count-fits}
 use Rattle.writer_proxy.proofs.counter.next_count.Statement.{statement}

@@ -1,10 +1,25 @@
+-- `writer_proxy::irrelevant::irrelevant_changes_range` meets its contract: refused, skipped, or put, each a case of `irrelevantRange`. Assumes nothing.
 use native.Mathlib.Omega.{arith}
+use mathlib.Core.Path.{_≡_}
 use mathlib.Core.Bool.{true, false}
+use lib.Signed.{ltZ}
 use borrow.Author.Needs.{needs}
+use Rattle.sequence_number.specs.Number.{natOf}
 use Rattle.proxy_core.proofs.NatLaws.{nat-top, nat-passed, order-passed}
 use Rattle.proxy_core.proofs.RangeStepLaws.{range-refused, range-keeps, range-order, range-skips, range-above-base, range-puts}
 use Rattle.writer_proxy.proofs.irrelevant.irrelevant_changes_range.Statement.{statement}
 use Rattle.writer_proxy.proofs.irrelevant.irrelevant_changes_range.Tie as tie
+
+-- the two ends as the core takes them
+ends : (c : tie.After-nat-of2)
+    → let s = c .before .before .before .before in
+    (ltZ (s .args .until) (s .args .from) ≡ false) × (c .before .nat-of .result ≡ natOf (s .args .from)) × (c .nat-of2 .result ≡ natOf (s .args .until))
+ends c =
+    let s = c .before .before .before .before in (
+      order-passed (s .args .from) (s .args .until) false (s .fits .from) (s .fits .until) (c .before .before .if1 .left),
+      nat-passed (s .args .from) _ (s .fits .from) (c .before .nat-of .ensures),
+      nat-passed (s .args .until) _ (s .fits .until) (c .nat-of2 .ensures),
+    )
 
 returns : tie.Need-returns
 returns c =
@@ -24,7 +39,7 @@ slice-read-if2 c = search needs
 skip-to-requires : tie.Need-skip-to-requires
 skip-to-requires c κs =
     let s = c .before .before .before .before .before .before .before in
-    (s .pre, omega (arith, nat-passed (s .args .until) _ (s .fits .until) (c .before .before .before .nat-of2 .ensures), nat-top (s .args .until) (s .fits .until)))
+    (s .pre, omega (arith, ends (c .before .before .before) .2, nat-top (s .args .until) (s .fits .until)))
 
 same-length : tie.Need-same-length
 same-length c = search needs
@@ -33,21 +48,17 @@ returns-2 : tie.Need-returns-2
 returns-2 c =
     let s = c .before .before .before .before .before .before .before .before .before .before in
     let a = s .args in
-    let e = order-passed (a .from) (a .until) false (s .fits .from) (s .fits .until) (c .before .before .before .before .before .before .before .before .if1 .left) in
-    let p = nat-passed (a .from) _ (s .fits .from) (c .before .before .before .before .before .before .before .nat-of .ensures) in
-    let q = nat-passed (a .until) _ (s .fits .until) (c .before .before .before .before .before .before .nat-of2 .ensures) in
-    let d = range-skips (a .from) (a .until) (s .fits .until) (a .t .now) (s .pre) e _ _ p q _ (c .before .before .before .before .if2 .taken) (c .before .before .skip-to .ensures) in
+    let e = ends (c .before .before .before .before .before .before) in
+    let d = range-skips (a .from) (a .until) (s .fits .until) (a .t .now) (s .pre) (e .0) _ _ (e .1) (e .2) _ (c .before .before .before .before .if2 .taken) (c .before .before .skip-to .ensures) in
     (d, range-keeps (a .from) (a .until) (s .fits .until) (a .t .now) (s .pre) _ (d .1))
 
 range-above-requires : tie.Need-range-above-requires
 range-above-requires c κs =
     let s = c .before .before .before .before .before .before .before in
     let a = s .args in
-    let e = order-passed (a .from) (a .until) false (s .fits .from) (s .fits .until) (c .before .before .before .before .before .if1 .left) in
-    let p = nat-passed (a .from) _ (s .fits .from) (c .before .before .before .before .nat-of .ensures) in
-    let q = nat-passed (a .until) _ (s .fits .until) (c .before .before .before .nat-of2 .ensures) in
-    let o = range-order (a .from) (a .until) (s .fits .until) (a .t .now) (s .pre) e _ _ p q in
-    (s .pre, range-above-base (a .from) (a .until) (s .fits .until) (a .t .now) (s .pre) e _ _ p q (c .before .if2 .left), o .0, o .1)
+    let e = ends (c .before .before .before) in
+    let o = range-order (a .from) (a .until) (s .fits .until) (a .t .now) (s .pre) (e .0) _ _ (e .1) (e .2) in
+    (s .pre, range-above-base (a .from) (a .until) (s .fits .until) (a .t .now) (s .pre) (e .0) _ _ (e .1) (e .2) (c .before .if2 .left), o .0, o .1)
 
 same-length-2 : tie.Need-same-length-2
 same-length-2 c = search needs
@@ -56,10 +67,8 @@ returns-3 : tie.Need-returns-3
 returns-3 c =
     let s = c .before .before .before .before .before .before .before .before .before .before in
     let a = s .args in
-    let e = order-passed (a .from) (a .until) false (s .fits .from) (s .fits .until) (c .before .before .before .before .before .before .before .before .if1 .left) in
-    let p = nat-passed (a .from) _ (s .fits .from) (c .before .before .before .before .before .before .before .nat-of .ensures) in
-    let q = nat-passed (a .until) _ (s .fits .until) (c .before .before .before .before .before .before .nat-of2 .ensures) in
-    let d = range-puts (a .from) (a .until) (s .fits .until) (a .t .now) (s .pre) e _ _ p q _ _ (c .before .before .before .before .if2 .left) (c .before .before .range-above .ensures) in
+    let e = ends (c .before .before .before .before .before .before) in
+    let d = range-puts (a .from) (a .until) (s .fits .until) (a .t .now) (s .pre) (e .0) _ _ (e .1) (e .2) _ _ (c .before .before .before .before .if2 .left) (c .before .before .range-above .ensures) in
     (d, range-keeps (a .from) (a .until) (s .fits .until) (a .t .now) (s .pre) _ (d .1))
 
 pub irrelevant-changes-range-spec : {M : Type 1} → statement M

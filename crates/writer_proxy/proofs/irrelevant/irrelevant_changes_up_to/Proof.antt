@@ -1,3 +1,4 @@
+-- `writer_proxy::irrelevant::irrelevant_changes_up_to` meets its contract: it is the range from 0 on. Assumes nothing.
 use mir.Facts.{toZ-ofZ}
 use borrow.Author.Needs.{needs}
 use Rattle.writer_proxy.proofs.irrelevant.irrelevant_changes_up_to.Statement.{statement}

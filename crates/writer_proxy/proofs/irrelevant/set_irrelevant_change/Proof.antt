@@ -1,3 +1,4 @@
+-- `writer_proxy::irrelevant::set_irrelevant_change` meets its contract: refused, below the base, or tracked, each a case of `irrelevant`. Assumes nothing.
 use Prim.Native.Nat.{_<_, _≤_}
 use native.Mathlib.Omega.{arith}
 use mathlib.Core.Path.{refl, sym}

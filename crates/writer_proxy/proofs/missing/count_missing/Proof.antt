@@ -1,3 +1,4 @@
+-- `writer_proxy::missing::count_missing` meets its contract: what is missing and what is tracked between two places make up the range. Assumes nothing.
 use borrow.Author.Needs.{needs}
 use Rattle.writer_proxy.proofs.MissingLaws.{counted}
 use Rattle.writer_proxy.proofs.missing.count_missing.Statement.{statement}

@@ -1,3 +1,5 @@
+-- `writer_proxy::missing::list_missing` meets its contract: what is written so far is what is missing below n, and i is n's place.
+-- Assumes nothing.
 use Prim.Native.Nat.{_+_, _-_, _<_}
 use native.Mathlib.Omega.{arith}
 use mathlib.Core.Logic.{⊎-elim}

@@ -1,12 +1,32 @@
+-- `writer_proxy::missing::missing_seqnums` meets its contract: the two ends are those of `missingOf`, and each answer is a case of `listed`. Assumes nothing.
+use Prim.Native.Nat.{_-_, _≤_}
 use native.Mathlib.Omega.{arith}
-use mathlib.Core.Path.{sym, ap, _∙_}
+use mathlib.Core.Path.{_≡_, sym, ap, _∙_}
 use lib.ListN.{length}
 use borrow.Author.Needs.{needs}
-use Rattle.proxy_record.specs.Record.{stateOf}
+use Rattle.sequence_number.specs.Number.{top, natOf}
+use Rattle.proxy_record.specs.Record.{stateOf, tracked}
 use Rattle.proxy_core.proofs.NatLaws.{nat-top, nat-passed}
+use Rattle.writer_proxy.specs.Missing.{missing, missingOf}
 use Rattle.writer_proxy.proofs.MissingLaws.{listed-last, listed-short, listed-all, end-open, ends-order, ends-list}
 use Rattle.writer_proxy.proofs.missing.missing_seqnums.Statement.{statement}
 use Rattle.writer_proxy.proofs.missing.missing_seqnums.Tie as tie
+
+-- the two ends are found: the heartbeat's end is open, they are in order, and what lies between them is the list
+ends : (c : tie.After-larger2)
+    → let s = c .before .before .before .before .before .before .before in
+    let lo = c .before .larger .result in
+    let hi = c .larger2 .result in
+    (natOf (s .args .end) ≡ top → ⊥) × (lo ≤ hi) × (hi ≤ top) × (missing lo (hi - lo) (tracked (s .args .t .now)) ≡ missingOf (s .args .start) (s .args .end) (stateOf (s .args .t .now)))
+ends c =
+    let s = c .before .before .before .before .before .before .before in
+    let a = s .args in
+    let o = ends-order (a .start) (a .end) (s .fits .start) (s .fits .end) (a .t .now) (s .pre) _ _ _ _ (c .before .before .before .before .before .nat-of .ensures) (c .before .before .nat-of2 .ensures) (c .before .before .before .before .if1 .left) (c .before .larger .ensures) (c .larger2 .ensures) in (
+      end-open (a .start) (a .end) (s .fits .start) (s .fits .end) (a .t .now) (s .pre) _ _ _ _ (c .before .before .before .before .before .nat-of .ensures) (c .before .before .nat-of2 .ensures) (c .before .before .before .before .if1 .left) (c .before .larger .ensures) (c .larger2 .ensures),
+      o .0,
+      o .1,
+      ends-list (a .start) (a .end) (s .fits .start) (s .fits .end) (a .t .now) (s .pre) _ _ _ _ (c .before .before .before .before .before .nat-of .ensures) (c .before .before .nat-of2 .ensures) (c .before .before .before .before .if1 .left) (c .before .larger .ensures) (c .larger2 .ensures),
+    )
 
 nat-of-requires : tie.Need-nat-of-requires
 nat-of-requires c κs = search needs
@@ -37,29 +57,23 @@ count-missing-requires c κs = search needs
 
 returns-2 : tie.Need-returns-2
 returns-2 c =
-    let s = c .before .before .before .before .before .before .before .before .before in
-    let a = s .args in
-    let n = end-open (a .start) (a .end) (s .fits .start) (s .fits .end) (a .t .now) (s .pre) _ _ _ _ (c .before .before .before .before .before .before .before .nat-of .ensures) (c .before .before .before .before .nat-of2 .ensures) (c .before .before .before .before .before .before .if1 .left) (c .before .before .before .larger .ensures) (c .before .before .larger2 .ensures) in
-    let l = ends-list (a .start) (a .end) (s .fits .start) (s .fits .end) (a .t .now) (s .pre) _ _ _ _ (c .before .before .before .before .before .before .before .nat-of .ensures) (c .before .before .before .before .nat-of2 .ensures) (c .before .before .before .before .before .before .if1 .left) (c .before .before .before .larger .ensures) (c .before .before .larger2 .ensures) in
-    listed-short (a .start) (a .end) (stateOf (a .t .now)) (a .out .now) n (omega (arith, c .before .count-missing .ensures, ap length l, c .if2 .taken))
+    let a = c .before .before .before .before .before .before .before .before .before .args in
+    let e = ends (c .before .before) in
+    listed-short (a .start) (a .end) (stateOf (a .t .now)) (a .out .now) (e .0) (omega (arith, c .before .count-missing .ensures, ap length (e .3), c .if2 .taken))
 
 list-missing-requires : tie.Need-list-missing-requires
 list-missing-requires c κs =
-    let s = c .before .before .before .before .before .before .before .before .before .before in
-    let a = s .args in
-    let o = ends-order (a .start) (a .end) (s .fits .start) (s .fits .end) (a .t .now) (s .pre) _ _ _ _ (c .before .before .before .before .before .before .before .before .nat-of .ensures) (c .before .before .before .before .before .nat-of2 .ensures) (c .before .before .before .before .before .before .before .if1 .left) (c .before .before .before .before .larger .ensures) (c .before .before .before .larger2 .ensures) in
-    (s .pre, o .0, o .1, omega (arith, c .before .before .count-missing .ensures, c .before .if2 .left))
+    let e = ends (c .before .before .before) in
+    (c .before .before .before .before .before .before .before .before .before .before .pre, e .1, e .2, omega (arith, c .before .before .count-missing .ensures, c .before .if2 .left))
 
 same-length : tie.Need-same-length
 same-length c = search needs
 
 returns-3 : tie.Need-returns-3
 returns-3 c =
-    let s = c .before .before .before .before .before .before .before .before .before .before .before .before in
-    let a = s .args in
-    let n = end-open (a .start) (a .end) (s .fits .start) (s .fits .end) (a .t .now) (s .pre) _ _ _ _ (c .before .before .before .before .before .before .before .before .before .before .nat-of .ensures) (c .before .before .before .before .before .before .before .nat-of2 .ensures) (c .before .before .before .before .before .before .before .before .before .if1 .left) (c .before .before .before .before .before .before .larger .ensures) (c .before .before .before .before .before .larger2 .ensures) in
-    let l = ends-list (a .start) (a .end) (s .fits .start) (s .fits .end) (a .t .now) (s .pre) _ _ _ _ (c .before .before .before .before .before .before .before .before .before .before .nat-of .ensures) (c .before .before .before .before .before .before .before .nat-of2 .ensures) (c .before .before .before .before .before .before .before .before .before .if1 .left) (c .before .before .before .before .before .before .larger .ensures) (c .before .before .before .before .before .larger2 .ensures) in
-    listed-all (a .start) (a .end) (stateOf (a .t .now)) (a .out .now) _ _ n (omega (arith, c .before .before .before .before .count-missing .ensures, ap length l, c .before .before .before .if2 .left)) (c .before .before .before .before .count-missing .ensures ∙ ap length l) (rw l at (c .before .list-missing .ensures))
+    let a = c .before .before .before .before .before .before .before .before .before .before .before .before .args in
+    let e = ends (c .before .before .before .before .before) in
+    listed-all (a .start) (a .end) (stateOf (a .t .now)) (a .out .now) _ _ (e .0) (omega (arith, c .before .before .before .before .count-missing .ensures, ap length (e .3), c .before .before .before .if2 .left)) (c .before .before .before .before .count-missing .ensures ∙ ap length (e .3)) (rw (e .3) at (c .before .list-missing .ensures))
 
 pub missing-seqnums-spec : {M : Type 1} → statement M
 missing-seqnums-spec =

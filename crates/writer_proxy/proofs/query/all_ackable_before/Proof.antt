@@ -1,3 +1,4 @@
+-- `writer_proxy::query::all_ackable_before` meets its contract: the first word is the base. Assumes nothing.
 use native.Mathlib.Omega.{arith}
 use borrow.Author.Needs.{needs}
 use Rattle.proxy_core.specs.Calls.{cap}

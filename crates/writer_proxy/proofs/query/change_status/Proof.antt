@@ -1,3 +1,4 @@
+-- `writer_proxy::query::change_status` meets its contract: a number below 0 is not tracked, and neither is 0. Assumes nothing.
 use Prim.Native.Nat.{ℕ}
 use mathlib.Core.Path.{ap, _∙_}
 use borrow.Author.Needs.{needs}

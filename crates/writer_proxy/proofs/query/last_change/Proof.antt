@@ -1,3 +1,4 @@
+-- `writer_proxy::query::last_change` meets its contract: the two words of the head, by the cases of `lastOf`. Assumes nothing.
 use native.Mathlib.Omega.{arith}
 use borrow.Author.Needs.{needs}
 use Rattle.proxy_record.specs.Record.{stateOf}

@@ -1,14 +1,25 @@
+-- `writer_proxy::query::should_ignore_change` meets its contract: a number below 0 is below every base, and past the base the status tells. Assumes nothing.
 use native.Mathlib.Omega.{arith}
-use mathlib.Core.Path.{ap}
-use mathlib.Core.Bool.{true, false}
+use mathlib.Core.Path.{_≡_, ap}
+use mathlib.Core.Bool.{Bool, true, false}
 use borrow.Author.Needs.{needs}
 use Rattle.proxy_record.specs.Record.{stateOf}
 use Rattle.proxy_core.specs.Calls.{cap}
 use Rattle.proxy_core.proofs.NatLaws.{nat-passed}
 use Rattle.proxy_core.proofs.StepLaws.{base-word}
+use Rattle.writer_proxy.specs.Queries.{ignored}
 use Rattle.writer_proxy.proofs.QueryLaws.{isShown, ignored-low, ignored-by}
 use Rattle.writer_proxy.proofs.query.should_ignore_change.Statement.{statement}
 use Rattle.writer_proxy.proofs.query.should_ignore_change.Tie as tie
+
+-- past the base: b is what the arm answers
+past : (c : tie.After-status-of) (b : Bool) → isShown (c .status-of .result) ≡ b
+    → let s = c .before .before .before .before .before in
+    b ≡ ignored (s .args .number) (stateOf (s .args .t .now))
+past c b e =
+    let s = c .before .before .before .before .before in
+    let k = nat-passed (s .args .number) _ (s .fits .number) (c .before .before .before .nat-of .ensures) in
+    ignored-by cap (s .args .number) _ (stateOf (s .args .t .now)) _ b (s .pre .ok) k (omega (arith, c .before .if1 .left, base-word cap _ (omega arith) (s .pre))) (c .status-of .ensures) e
 
 nat-of-requires : tie.Need-nat-of-requires
 nat-of-requires c κs = search needs
@@ -35,22 +46,13 @@ enum-told-3 : tie.Need-enum-told-3
 enum-told-3 c = search needs
 
 returns-2 : tie.Need-returns-2
-returns-2 c =
-    let s = c .before .before .before .before .before .before .before in
-    let k = nat-passed (s .args .number) _ (s .fits .number) (c .before .before .before .before .before .nat-of .ensures) in
-    ignored-by cap (s .args .number) _ (stateOf (s .args .t .now)) _ false (s .pre .ok) k (omega (arith, c .before .before .before .if1 .left, base-word cap _ (omega arith) (s .pre))) (c .before .before .status-of .ensures) (ap isShown (c .enum-told .given .1))
+returns-2 c = past (c .before .before) false (ap isShown (c .enum-told .given .1))
 
 returns-3 : tie.Need-returns-3
-returns-3 c =
-    let s = c .before .before .before .before .before .before .before in
-    let k = nat-passed (s .args .number) _ (s .fits .number) (c .before .before .before .before .before .nat-of .ensures) in
-    ignored-by cap (s .args .number) _ (stateOf (s .args .t .now)) _ true (s .pre .ok) k (omega (arith, c .before .before .before .if1 .left, base-word cap _ (omega arith) (s .pre))) (c .before .before .status-of .ensures) (ap isShown (c .enum-told2 .given .1))
+returns-3 c = past (c .before .before) true (ap isShown (c .enum-told2 .given .1))
 
 returns-4 : tie.Need-returns-4
-returns-4 c =
-    let s = c .before .before .before .before .before .before .before in
-    let k = nat-passed (s .args .number) _ (s .fits .number) (c .before .before .before .before .before .nat-of .ensures) in
-    ignored-by cap (s .args .number) _ (stateOf (s .args .t .now)) _ true (s .pre .ok) k (omega (arith, c .before .before .before .if1 .left, base-word cap _ (omega arith) (s .pre))) (c .before .before .status-of .ensures) (ap isShown (c .enum-told3 .given .1))
+returns-4 c = past (c .before .before) true (ap isShown (c .enum-told3 .given .1))
 
 pub should-ignore-change-spec : {M : Type 1} → statement M
 should-ignore-change-spec =

@@ -1,3 +1,4 @@
+-- `writer_proxy::query::status_of` meets its contract: at a number's place stands its entry, or it has none. Assumes nothing.
 use native.Mathlib.Omega.{arith}
 use mathlib.Core.Path.{_∙_}
 use borrow.Author.Needs.{needs}

@@ -1,3 +1,4 @@
+-- `writer_proxy::received::received_changes_add` meets its contract: refused or received, each a case of `received`. Assumes nothing.
 use borrow.Author.Needs.{needs}
 use Rattle.proxy_record.specs.Record.{stateOf}
 use Rattle.proxy_core.specs.Calls.{refused, receivedAt, received}

@@ -1,3 +1,4 @@
+-- `writer_proxy::set_up::set_up` meets its contract: too short, or wiped and the base set, each a case of `setUp`. Assumes nothing.
 use native.Mathlib.Omega.{arith}
 use borrow.Author.Needs.{needs}
 use Rattle.writer_proxy.proofs.SetUpLaws.{set-up-short, set-up-done, set-up-good}
