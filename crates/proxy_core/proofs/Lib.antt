@@ -1,0 +1,5 @@
+pub mod NatLaws
+pub mod CallsLaws
+pub mod RangeLaws
+pub mod StepLaws
+pub mod RangeStepLaws

@@ -1,0 +1,4 @@
+pub mod Entries
+pub mod State
+pub mod Column
+pub mod Record

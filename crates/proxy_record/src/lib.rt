@@ -1,0 +1,27 @@
+// The record that a caller keeps for one writer, as lent words: where its parts lie, and the changes of its table.
+// A reader of the calls (crate `writer_proxy`) needs only the contracts of `rows`.
+pub mod column;
+pub mod rows;
+
+// The head: four words.
+pub const BASE: usize = 0;
+
+pub const COUNT: usize = 1;
+
+pub const LAST: usize = 2;
+
+pub const TIME: usize = 3;
+
+// The table: three columns of 257 words, one more than are tracked after a call.
+pub const NUMBERS: usize = 4;
+
+pub const KINDS: usize = 261;
+
+pub const TIMES: usize = 518;
+
+pub const WORDS: usize = 775;
+
+// What stands in the column of kinds.
+pub const NOT_AVAILABLE: u64 = 0;
+
+pub const RECEIVED: u64 = 1;

@@ -1,0 +1,337 @@
+-- The theorems of the writer proxy, under document 01's words. A call's own promise is its contract; here is what follows for every state, number and time.
+-- `cap` is 256, `top` is 2^63 - 1, and `SFits w64 n` says that n is an i64. Assumes nothing.
+use Prim.Native.Nat.{ℕ, suc, _+_, _-_, _%_, _<_, _≤_}
+use native.Mathlib.Omega.{arith}
+use mathlib.Core.Logic.{_⊎_, inl, inr, ⊎-elim, _↔_}
+use mathlib.Core.Path.{_≡_, refl, sym, ap, _∙_}
+use mathlib.Core.Bool.{Bool, true, false, cond}
+use mathlib.Core.Option.{none, some}
+use mathlib.Core.List.{List, [], map, List·Memᴰ}
+use lib.ListN.{length}
+use lib.Dec.{ltb, eqb}
+use lib.IntN.{ℤ, pos, negsuc}
+use lib.Signed.{ltZ, leZ}
+use mir.Syntax.{w64, w32}
+use mir.Val.{SFits, ofZ, toZ}
+use borrow.Author.Tests.{lt-ltb, le-ltb, eq-eqb, ne-eqb}
+use Rattle.sequence_number.specs.Number.{top, isNumber, natOf}
+use Rattle.sequence_number.specs.Lent.{over}
+use Rattle.sequence_number.proofs.Split.{split, split-lt, split-eq}
+use Rattle.proxy_record.specs.Entries.{Entry, NotAvailable}
+use Rattle.proxy_record.specs.State.{State, Ok, begun}
+use Rattle.proxy_record.specs.Record.{size, recordOf, stateOf}
+use Rattle.proxy_record.proofs.RecordLaws.{state-of}
+use Rattle.proxy_core.specs.declared.Report.{Report}
+use Rattle.proxy_core.specs.declared.Report.the-variants.{Refused}
+use Rattle.proxy_core.specs.Calls.{Reply, put, moveOn, discard, cap, ended, lost, receivedAt, received, irrelevantAt, irrelevant, putEach, rangeAt, irrelevantRange, upTo, Answered}
+use Rattle.proxy_core.proofs.CallsLaws.{ok-begun, ok-received, ok-irrelevant, range-at-above, ok-range, base-received, base-irrelevant, base-range}
+use Rattle.writer_proxy.specs.declared.counter.AckNackCounter.{AckNackCounter}
+use Rattle.writer_proxy.specs.declared.counter.HandedOut.{HandedOut}
+use Rattle.writer_proxy.specs.declared.missing.Listing.{Listing}
+use Rattle.writer_proxy.specs.declared.missing.Listing.the-variants.{Listed}
+use Rattle.writer_proxy.specs.declared.query.Status.{Status}
+use Rattle.writer_proxy.specs.declared.query.Last.{Last}
+use Rattle.writer_proxy.specs.SetUp.{setUp}
+use Rattle.writer_proxy.specs.Queries.{look, ignored, statusOf, lastOf}
+use Rattle.writer_proxy.specs.Missing.{missing, lowest, missingOf, listed}
+use Rattle.writer_proxy.specs.Counter.{nextCount, fresh, handedOut}
+use Rattle.writer_proxy.specs.Statements.{Tracked, Ascending, NotTaken}
+use Rattle.writer_proxy.specs.Answers.{refusalOf, listingRefusalOf}
+use Rattle.writer_proxy.proofs.TrackedLaws.{has-tracked, not-tracked, moved-past, moved-stops}
+use Rattle.writer_proxy.proofs.ShownLaws.{look-put, look-kept, look-each-out, look-each-in}
+use Rattle.writer_proxy.proofs.MissingLaws.{listed-all, missing-has, missing-ascends}
+use Rattle.writer_proxy.proofs.CounterLaws.{next-wraps}
+use Rattle.writer_proxy.proofs.Refusals.{not-taken, refused-unless, refused-if, unless-same, if-same, received-accepted, irrelevant-accepted, range-accepted, end-top, start-low, end-high, crossed, received-number-at, irrelevant-number-at, range-number-at}
+use Rattle.writer_proxy.specs.declared.missing.Listing.the-variants as Listing
+
+-- "their own rules hold, shown kept by every call": among them "Never more than 256 numbers are tracked after a call"
+pub set-up-keeps : Ok cap begun
+set-up-keeps = ok-begun
+
+pub received-keeps-rules : (n : ℤ) (t : ℕ) (s : State) → Ok cap s → Ok cap (received n t s .state)
+received-keeps-rules = ok-received
+
+pub irrelevant-keeps-rules : (n : ℤ) (s : State) → Ok cap s → Ok cap (irrelevant n s .state)
+irrelevant-keeps-rules = ok-irrelevant
+
+pub range-keeps-rules : (a b : ℤ) (s : State) → SFits w64 b → Ok cap s → Ok cap (irrelevantRange a b s .state)
+range-keeps-rules = ok-range
+
+pub up-to-keeps-rules : (n : ℤ) (s : State) → SFits w64 n → Ok cap s → Ok cap (upTo n s .state)
+up-to-keeps-rules n = ok-range (pos 0) n
+
+-- the words are the record of a state, one record a state
+pub record-reads-back : (s : State) → Ok cap s → stateOf (recordOf s) ≡ s
+record-reads-back s o = state-of s (recordOf s) (omega (arith, o .few)) refl
+
+-- "the ack base starts at 1 and never falls"
+pub received-lifts-base : (n : ℤ) (t : ℕ) (s : State) → s .base ≤ received n t s .state .base
+received-lifts-base = base-received
+
+pub irrelevant-lifts-base : (n : ℤ) (s : State) → s .base ≤ irrelevant n s .state .base
+irrelevant-lifts-base = base-irrelevant
+
+pub range-lifts-base : (a b : ℤ) (s : State) → s .base ≤ irrelevantRange a b s .state .base
+range-lifts-base = base-range
+
+pub up-to-lifts-base : (n : ℤ) (s : State) → s .base ≤ upTo n s .state .base
+up-to-lifts-base = base-range (pos 0)
+
+-- "the base moves to the first untracked number"
+pub first-untracked : (m : ℕ) (s : State) → Ok m s → ((n : ℕ) → s .base ≤ n → n < moveOn s .base → Tracked n (s .tracked)) × (Tracked (moveOn s .base) (s .tracked) → ⊥)
+first-untracked m s o = (λ n. moved-past n s, moved-stops m s o)
+
+-- What the table says of each number m after a step
+
+-- "put .. over what was there"
+pub put-shows : (m : ℕ) (e : Entry) (s : State) → look m (put e s .tracked) ≡ cond (eqb (e .number) m) (some (e .mark)) (look m (s .tracked))
+put-shows m e s = look-put m e (s .tracked)
+
+-- "tracked numbers below the base go"
+pub discard-shows : (m : ℕ) (s : State) → look m (discard s .tracked) ≡ cond (ltb m (s .base)) none (look m (s .tracked))
+unfolding discard
+discard-shows m s = look-kept m (s .base) (s .tracked)
+
+-- "each is put not available": the k numbers from a on, and no other
+pub puts-show : (k a m : ℕ) (s : State) → a ≤ m → m < a + k → look m (putEach a k s .tracked) ≡ some NotAvailable
+puts-show = look-each-in
+
+pub puts-keep : (k a m : ℕ) (s : State) → (m < a) ⊎ (a + k ≤ m) → look m (putEach a k s .tracked) ≡ look m (s .tracked)
+puts-keep = look-each-out
+
+-- "Ignore holds exactly for a number below the base or tracked"
+pub ignore-exact : (n : ℤ) (s : State) → (ignored n s ≡ true) ↔ ((ltZ n (pos (s .base)) ≡ true) ⊎ Tracked (natOf n) (s .tracked))
+ignore-exact (negsuc n) s = (λ h. inl refl, λ h. refl)
+ignore-exact (pos n) s =
+    split (ltb n (s .base))
+    (λ e. rw e (λ h. inl refl, λ h. refl))
+    (λ e. rw e (λ h. inr (has-tracked n (s .tracked) .0 h), ⊎-elim (λ h. let z : _≡_ {A = ℕ} 0 1 = cc in absurd (omega arith)) (λ h. has-tracked n (s .tracked) .1 h)))
+
+-- The missing list, "from the larger of heartbeat start and ack base through that end"
+module _ (start end : ℤ) (s : State) (o : Ok cap s) where
+  -- exactly the untracked numbers
+  pub missing-exact : (n : ℕ) → List·Memᴰ n (missingOf start end s) ↔ ((s .base ≤ n) × (leZ start (pos n) ≡ true) × (leZ (pos n) end ≡ true) × (Tracked n (s .tracked) → ⊥))
+  missing-exact n =
+      let m = missing-has n (lowest start s) (suc (natOf end) - lowest start s) (s .tracked) in (
+        λ h.
+            let p = m .0 h in
+            let b : s .base ≤ n = omega (arith, p .0) in
+            (b, start-low start n .1 (omega (arith, p .0)), end-high end n (omega (arith, o .low)) .1 (omega (arith, p .0, p .1)), not-tracked n (s .tracked) .0 (p .2)),
+        λ h.
+            let a : natOf start ≤ n = start-low start n .0 (h .1) in
+            let b : n ≤ natOf end = end-high end n (omega (arith, o .low, h .0)) .0 (h .2) in
+            m .1 (omega (arith, h .0), omega (arith, h .0), not-tracked n (s .tracked) .1 (h .3)),
+      )
+
+  -- in rising order
+  pub missing-rising : Ascending (lowest start s) (missingOf start end s)
+  missing-rising = missing-ascends (lowest start s) (suc (natOf end) - lowest start s) (s .tracked)
+
+  -- "If heartbeat start exceeds its end, nothing is missing"
+  pub missing-nothing : ltZ end start ≡ true → missingOf start end s ≡ []
+  unfolding missing
+  missing-nothing e =
+      let k : suc (natOf end) - lowest start s ≡ 0 = omega (arith, crossed start end (s .base) (o .low) e) in
+      rw k
+
+  -- given room and an end below 2^63 - 1, the list is written whole, its count is its length, and entries past it keep their values
+  pub missing-listed : (out : List ℤ) → (end ≡ pos top → ⊥) → length (missingOf start end s) ≤ length out
+      → (listed start end s out .answer ≡ Listed (length (missingOf start end s))) × (listed start end s out .output ≡ over (map pos (missingOf start end s)) out)
+  missing-listed out n h =
+      let a = listed-all start end s out (length (missingOf start end s)) (over (map pos (missingOf start end s)) out) (λ e. n (end-top end .0 e)) h refl refl in
+      (sym (a .0), sym (a .1))
+
+-- "Else each is put not available, over what was there": a range above the base is its numbers put one by one, and then the cap
+pub range-is-puts : (a b : ℤ) (s : State) → ltZ b a ≡ false → s .base < natOf a → irrelevantRange a b s ≡ ended (putEach (natOf a) (natOf b - natOf a) s)
+unfolding irrelevantRange
+range-is-puts a b s e h = rw e (range-at-above (natOf a) (natOf b) s h)
+
+pub puts-one-by-one : (a k : ℕ) (s : State) → (putEach a 0 s ≡ s) × (putEach a (suc k) s ≡ putEach (suc a) k (put (lost a) s))
+unfolding putEach
+puts-one-by-one a k s = (refl, refl)
+
+-- Refusals: "Given exactly when", and then state and output are untouched
+
+-- the refusal number of each call's answer, 0 where it is accepted
+pub received-number : (n : ℤ) (t : ℕ) (s : State) → refusalOf (received n t s .report) ≡ cond (isNumber n) 0 4
+unfolding received
+received-number n t s = split (isNumber n) (λ e. rw e (received-number-at (natOf n) t s)) (λ e. rw e)
+
+pub irrelevant-number : (n : ℤ) (s : State) → refusalOf (irrelevant n s .report) ≡ cond (isNumber n) 0 4
+unfolding irrelevant
+irrelevant-number n s = split (isNumber n) (λ e. rw e (irrelevant-number-at (natOf n) s)) (λ e. rw e)
+
+pub range-number : (a b : ℤ) (s : State) → refusalOf (irrelevantRange a b s .report) ≡ cond (ltZ b a) 5 0
+unfolding irrelevantRange
+range-number a b s = split (ltZ b a) (λ e. rw e) (λ e. rw e (range-number-at (natOf a) (natOf b) s))
+
+pub up-to-number : (n : ℤ) (s : State) → refusalOf (upTo n s .report) ≡ cond (ltZ n (pos 0)) 5 0
+up-to-number n = range-number (pos 0) n
+
+pub missing-number : (start end : ℤ) (s : State) (out : List ℤ)
+    → listingRefusalOf (listed start end s out .answer) ≡ cond (eqb (natOf end) top) 4 (cond (ltb (length out) (length (missingOf start end s))) 3 0)
+unfolding listed
+missing-number start end s out =
+    split (eqb (natOf end) top)
+    (λ e. rw e)
+    (λ e. rw e (split (ltb (length out) (length (missingOf start end s))) (λ a. rw a) (λ a. rw a)))
+
+pub set-up-number : (w : List ℕ) → refusalOf (setUp w .report) ≡ cond (ltb (length w) size) 3 0
+unfolding setUp
+set-up-number w = split (ltb (length w) size) (λ e. rw e) (λ e. rw e)
+
+-- 4: "number below 1 or equal to 2^63 - 1 in received, one irrelevant"
+module _ (n : ℤ) (f : SFits w64 n) (s : State) where
+  pub received-refused : (t k : ℕ) → (received n t s .report ≡ Refused k) ↔ ((k ≡ 4) × NotTaken n)
+  unfolding received
+  received-refused t k =
+      let e = refused-unless 4 s (receivedAt (natOf n) t s) (received-accepted (natOf n) t s) (isNumber n) k in
+      (λ h. (e .0 h .1, not-taken n f .0 (e .0 h .0)), λ h. e .1 (not-taken n f .1 (h .1), h .0))
+
+  pub irrelevant-refused : (k : ℕ) → (irrelevant n s .report ≡ Refused k) ↔ ((k ≡ 4) × NotTaken n)
+  unfolding irrelevant
+  irrelevant-refused k =
+      let e = refused-unless 4 s (irrelevantAt (natOf n) s) (irrelevant-accepted (natOf n) s) (isNumber n) k in
+      (λ h. (e .0 h .1, not-taken n f .0 (e .0 h .0)), λ h. e .1 (not-taken n f .1 (h .1), h .0))
+
+  pub received-refused-same : (t k : ℕ) → received n t s .report ≡ Refused k → received n t s .state ≡ s
+  unfolding received
+  received-refused-same t k = unless-same 4 s (receivedAt (natOf n) t s) (received-accepted (natOf n) t s) (isNumber n) k
+
+  pub irrelevant-refused-same : (k : ℕ) → irrelevant n s .report ≡ Refused k → irrelevant n s .state ≡ s
+  unfolding irrelevant
+  irrelevant-refused-same k = unless-same 4 s (irrelevantAt (natOf n) s) (irrelevant-accepted (natOf n) s) (isNumber n) k
+
+-- 5: "range with a > b"
+pub range-refused-only : (a b : ℤ) (s : State) (k : ℕ) → (irrelevantRange a b s .report ≡ Refused k) ↔ ((ltZ b a ≡ true) × (k ≡ 5))
+unfolding irrelevantRange
+range-refused-only a b s k = refused-if 5 s (rangeAt (natOf a) (natOf b) s) (range-accepted (natOf a) (natOf b) s) (ltZ b a) k
+
+pub range-refused-same : (a b : ℤ) (s : State) (k : ℕ) → irrelevantRange a b s .report ≡ Refused k → irrelevantRange a b s .state ≡ s
+unfolding irrelevantRange
+range-refused-same a b s k = if-same 5 s (rangeAt (natOf a) (natOf b) s) (range-accepted (natOf a) (natOf b) s) (ltZ b a) k
+
+pub up-to-refused : (n : ℤ) (s : State) (k : ℕ) → (upTo n s .report ≡ Refused k) ↔ ((ltZ n (pos 0) ≡ true) × (k ≡ 5))
+up-to-refused n = range-refused-only (pos 0) n
+
+pub up-to-refused-same : (n : ℤ) (s : State) (k : ℕ) → upTo n s .report ≡ Refused k → upTo n s .state ≡ s
+up-to-refused-same n = range-refused-same (pos 0) n
+
+-- "Missing numbers: 4, then 3"
+not-both : (a b : ℕ) → a < b → b ≤ a → ⊥
+not-both a b h k = omega arith
+
+not-refused : (n k : ℕ) → Listed n ≡ Listing.Refused k → ⊥
+not-refused n k e = let z : _≡_ {A = ℕ} 0 1 = cc in omega arith
+
+module _ (start end : ℤ) (s : State) (out : List ℤ) where
+  pub missing-refused : (k : ℕ)
+      → (listed start end s out .answer ≡ Listing.Refused k)
+      ↔ (((end ≡ pos top) × (k ≡ 4)) ⊎ ((end ≡ pos top → ⊥) × (length out < length (missingOf start end s)) × (k ≡ 3)))
+  unfolding listed
+  missing-refused k =
+      ⊎-elim
+      (λ e.
+      rw (eq-eqb (natOf end) top e)
+      (λ h. inl (end-top end .0 e, cc), ⊎-elim (λ h. ap Listing.Refused (sym (h .1))) (λ h. absurd (h .0 (end-top end .0 e)))))
+      (λ e.
+      let n : end ≡ pos top → ⊥ = λ h. e (end-top end .1 h) in
+      ⊎-elim
+      (λ a.
+      rw (ne-eqb (natOf end) top e, lt-ltb (length out) (length (missingOf start end s)) a)
+      (λ h. inr (n, a, cc), ⊎-elim (λ h. absurd (n (h .0))) (λ h. ap Listing.Refused (sym (h .2)))))
+      (λ a.
+      rw (ne-eqb (natOf end) top e, le-ltb (length out) (length (missingOf start end s)) a)
+      (λ h. absurd (not-refused (length (missingOf start end s)) k h), ⊎-elim (λ h. absurd (n (h .0))) (λ h. absurd (not-both (length out) (length (missingOf start end s)) (h .1) a))))
+      (split-lt (length out) (length (missingOf start end s))))
+      (split-eq (natOf end) top)
+
+  pub missing-refused-same : (k : ℕ) → listed start end s out .answer ≡ Listing.Refused k → listed start end s out .output ≡ out
+  unfolding listed
+  missing-refused-same k =
+      split (eqb (natOf end) top)
+      (λ e. rw e (λ h. refl))
+      (λ e.
+      rw e
+      (split (ltb (length out) (length (missingOf start end s)))
+      (λ a. rw a (λ h. refl))
+      (λ a. rw a (λ h. let z : _≡_ {A = ℕ} 0 1 = cc in absurd (omega arith)))))
+
+-- 3: "lent output shorter than the answer", at set-up
+pub set-up-refused : (w : List ℕ) (k : ℕ) → (setUp w .report ≡ Refused k) ↔ ((length w < size) × (k ≡ 3))
+unfolding setUp
+set-up-refused w k =
+    ⊎-elim
+    (λ a. rw (lt-ltb (length w) size a) (λ h. (a, cc), λ h. ap Refused (sym (h .1))))
+    (λ a. rw (le-ltb (length w) size a) (λ h. let z : _≡_ {A = ℕ} 0 1 = cc in absurd (omega arith), λ h. absurd (omega (arith, h .0))))
+    (split-lt (length w) size)
+
+pub set-up-refused-same : (w : List ℕ) (k : ℕ) → setUp w .report ≡ Refused k → setUp w .words ≡ w
+unfolding setUp
+set-up-refused-same w k =
+    split (ltb (length w) size)
+    (λ e. rw e (λ h. refl))
+    (λ e. rw e (λ h. let z : _≡_ {A = ℕ} 0 1 = cc in absurd (omega arith)))
+
+-- The acknack count
+
+-- "The acknack count, 0 at first, is handed out, and the call moves the caller's own counter record on where it lies"
+pub count-at-first : (handedOut fresh .count ≡ pos 0) × (handedOut fresh .counter .count ≡ pos 1)
+count-at-first = (refl, refl)
+
+-- "after 2,147,483,647 comes -2,147,483,648"
+pub count-at-last : nextCount (pos 2147483647) ≡ negsuc 2147483647
+count-at-last = refl
+
+-- "the i32 acknack count steps by wrapping add on purpose": 1 more, modulo 2^32, read as signed
+pub count-wraps : (n : ℤ) → SFits w32 n → nextCount n ≡ toZ w32 ((ofZ w32 n + 1) % 4294967296)
+count-wraps = next-wraps
+
+-- Determination: two answers that a call's promise allows are equal, with the lent words and entries. w is what was lent.
+same-of : {A : Type 0} {x y : A} (z : A) → x ≡ z → y ≡ z → x ≡ y
+same-of z p q = p ∙ sym q
+
+answered-same : (x : Reply) {r r′ : Report} {o o′ : List ℕ} → Answered r o x → Answered r′ o′ x → (r ≡ r′) × (o ≡ o′)
+answered-same x a b = (same-of (x .report) (a .0) (b .0), same-of (recordOf (x .state)) (a .1) (b .1))
+
+module _ (w : List ℕ) {r r′ : Report} {o o′ : List ℕ} where
+  pub set-up-determined : (r ≡ setUp w .report) × (o ≡ setUp w .words) → (r′ ≡ setUp w .report) × (o′ ≡ setUp w .words) → (r ≡ r′) × (o ≡ o′)
+  set-up-determined a b = (same-of (setUp w .report) (a .0) (b .0), same-of (setUp w .words) (a .1) (b .1))
+
+  pub received-determined : (n : ℤ) (t : ℕ) → Answered r o (received n t (stateOf w)) → Answered r′ o′ (received n t (stateOf w)) → (r ≡ r′) × (o ≡ o′)
+  received-determined n t = answered-same (received n t (stateOf w))
+
+  pub irrelevant-determined : (n : ℤ) → Answered r o (irrelevant n (stateOf w)) → Answered r′ o′ (irrelevant n (stateOf w)) → (r ≡ r′) × (o ≡ o′)
+  irrelevant-determined n = answered-same (irrelevant n (stateOf w))
+
+  pub range-determined : (a b : ℤ) → Answered r o (irrelevantRange a b (stateOf w)) → Answered r′ o′ (irrelevantRange a b (stateOf w)) → (r ≡ r′) × (o ≡ o′)
+  range-determined a b = answered-same (irrelevantRange a b (stateOf w))
+
+  pub up-to-determined : (n : ℤ) → Answered r o (upTo n (stateOf w)) → Answered r′ o′ (upTo n (stateOf w)) → (r ≡ r′) × (o ≡ o′)
+  up-to-determined n = answered-same (upTo n (stateOf w))
+
+pub ackable-determined : (w : List ℕ) {r r′ : ℕ} → r ≡ stateOf w .base → r′ ≡ stateOf w .base → r ≡ r′
+ackable-determined w = same-of (stateOf w .base)
+
+pub last-determined : (w : List ℕ) {r r′ : Last} → r ≡ lastOf (stateOf w) → r′ ≡ lastOf (stateOf w) → r ≡ r′
+last-determined w = same-of (lastOf (stateOf w))
+
+pub status-determined : (n : ℤ) (w : List ℕ) {r r′ : Status} → r ≡ statusOf n (stateOf w) → r′ ≡ statusOf n (stateOf w) → r ≡ r′
+status-determined n w = same-of (statusOf n (stateOf w))
+
+pub ignore-determined : (n : ℤ) (w : List ℕ) {r r′ : Bool} → r ≡ ignored n (stateOf w) → r′ ≡ ignored n (stateOf w) → r ≡ r′
+ignore-determined n w = same-of (ignored n (stateOf w))
+
+pub missing-determined : (start end : ℤ) (w : List ℕ) (out : List ℤ) {r r′ : Listing} {o o′ : List ℤ}
+    → (r ≡ listed start end (stateOf w) out .answer) × (o ≡ listed start end (stateOf w) out .output)
+    → (r′ ≡ listed start end (stateOf w) out .answer) × (o′ ≡ listed start end (stateOf w) out .output) → (r ≡ r′) × (o ≡ o′)
+missing-determined start end w out a b = (same-of (listed start end (stateOf w) out .answer) (a .0) (b .0), same-of (listed start end (stateOf w) out .output) (a .1) (b .1))
+
+pub count-determined : (c : AckNackCounter) {r r′ : HandedOut} → r ≡ handedOut c → r′ ≡ handedOut c → r ≡ r′
+count-determined c = same-of (handedOut c)
+
+pub count-in-place-determined : (c : AckNackCounter) {r r′ : ℤ} {o o′ : AckNackCounter} → (r ≡ c .count) × (o ≡ handedOut c .counter) → (r′ ≡ c .count) × (o′ ≡ handedOut c .counter) → (r ≡ r′) × (o ≡ o′)
+count-in-place-determined c a b = (same-of (c .count) (a .0) (b .0), same-of (handedOut c .counter) (a .1) (b .1))
+
+pub count-plain-determined : (n : ℤ) {r r′ o o′ : ℤ} → (r ≡ n) × (o ≡ nextCount n) → (r′ ≡ n) × (o′ ≡ nextCount n) → (r ≡ r′) × (o ≡ o′)
+count-plain-determined n a b = (same-of n (a .0) (b .0), same-of (nextCount n) (a .1) (b .1))

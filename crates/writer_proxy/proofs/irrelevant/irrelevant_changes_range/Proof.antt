@@ -1,0 +1,87 @@
+-- `writer_proxy::irrelevant::irrelevant_changes_range` meets its contract: refused, skipped, or put, each a case of `irrelevantRange`. Assumes nothing.
+use native.Mathlib.Omega.{arith}
+use mathlib.Core.Path.{_≡_}
+use mathlib.Core.Bool.{true, false}
+use lib.Signed.{ltZ}
+use borrow.Author.Needs.{needs}
+use Rattle.sequence_number.specs.Number.{natOf}
+use Rattle.proxy_core.proofs.NatLaws.{nat-top, nat-passed, order-passed}
+use Rattle.proxy_core.proofs.RangeStepLaws.{range-refused, range-keeps, range-order, range-skips, range-above-base, range-puts}
+use Rattle.writer_proxy.proofs.irrelevant.irrelevant_changes_range.Statement.{statement}
+use Rattle.writer_proxy.proofs.irrelevant.irrelevant_changes_range.Tie as tie
+
+-- the two ends as the core takes them
+ends : (c : tie.After-nat-of2)
+    → let s = c .before .before .before .before in
+    (ltZ (s .args .until) (s .args .from) ≡ false) × (c .before .nat-of .result ≡ natOf (s .args .from)) × (c .nat-of2 .result ≡ natOf (s .args .until))
+ends c =
+    let s = c .before .before .before .before in (
+      order-passed (s .args .from) (s .args .until) false (s .fits .from) (s .fits .until) (c .before .before .if1 .left),
+      nat-passed (s .args .from) _ (s .fits .from) (c .before .nat-of .ensures),
+      nat-passed (s .args .until) _ (s .fits .until) (c .nat-of2 .ensures),
+    )
+
+returns : tie.Need-returns
+returns c =
+    let s = c .before .before in
+    let a = s .args in
+    (range-refused (a .from) (a .until) (s .fits .until) (a .t .now) (s .pre) (order-passed (a .from) (a .until) true (s .fits .from) (s .fits .until) (c .if1 .taken)), s .pre)
+
+nat-of-requires : tie.Need-nat-of-requires
+nat-of-requires c κs = search needs
+
+nat-of-requires-2 : tie.Need-nat-of-requires-2
+nat-of-requires-2 c κs = search needs
+
+slice-read-if2 : tie.Need-slice-read-if2
+slice-read-if2 c = search needs
+
+skip-to-requires : tie.Need-skip-to-requires
+skip-to-requires c κs =
+    let s = c .before .before .before .before .before .before .before in
+    (s .pre, omega (arith, ends (c .before .before .before) .2, nat-top (s .args .until) (s .fits .until)))
+
+same-length : tie.Need-same-length
+same-length c = search needs
+
+returns-2 : tie.Need-returns-2
+returns-2 c =
+    let s = c .before .before .before .before .before .before .before .before .before .before in
+    let a = s .args in
+    let e = ends (c .before .before .before .before .before .before) in
+    let d = range-skips (a .from) (a .until) (s .fits .until) (a .t .now) (s .pre) (e .0) _ _ (e .1) (e .2) _ (c .before .before .before .before .if2 .taken) (c .before .before .skip-to .ensures) in
+    (d, range-keeps (a .from) (a .until) (s .fits .until) (a .t .now) (s .pre) _ (d .1))
+
+range-above-requires : tie.Need-range-above-requires
+range-above-requires c κs =
+    let s = c .before .before .before .before .before .before .before in
+    let a = s .args in
+    let e = ends (c .before .before .before) in
+    let o = range-order (a .from) (a .until) (s .fits .until) (a .t .now) (s .pre) (e .0) _ _ (e .1) (e .2) in
+    (s .pre, range-above-base (a .from) (a .until) (s .fits .until) (a .t .now) (s .pre) (e .0) _ _ (e .1) (e .2) (c .before .if2 .left), o .0, o .1)
+
+same-length-2 : tie.Need-same-length-2
+same-length-2 c = search needs
+
+returns-3 : tie.Need-returns-3
+returns-3 c =
+    let s = c .before .before .before .before .before .before .before .before .before .before in
+    let a = s .args in
+    let e = ends (c .before .before .before .before .before .before) in
+    let d = range-puts (a .from) (a .until) (s .fits .until) (a .t .now) (s .pre) (e .0) _ _ (e .1) (e .2) _ _ (c .before .before .before .before .if2 .left) (c .before .before .range-above .ensures) in
+    (d, range-keeps (a .from) (a .until) (s .fits .until) (a .t .now) (s .pre) _ (d .1))
+
+pub irrelevant-changes-range-spec : {M : Type 1} → statement M
+irrelevant-changes-range-spec =
+    tie.close
+    (tie.spec
+    returns
+    nat-of-requires
+    nat-of-requires-2
+    slice-read-if2
+    skip-to-requires
+    same-length
+    returns-2
+    range-above-requires
+    same-length-2
+    returns-3)

@@ -1,0 +1,93 @@
+-- `writer_proxy::missing::missing_seqnums` meets its contract: the two ends are those of `missingOf`, and each answer is a case of `listed`. Assumes nothing.
+use Prim.Native.Nat.{_-_, _≤_}
+use native.Mathlib.Omega.{arith}
+use mathlib.Core.Path.{_≡_, sym, ap, _∙_}
+use lib.ListN.{length}
+use borrow.Author.Needs.{needs}
+use Rattle.sequence_number.specs.Number.{top, natOf}
+use Rattle.proxy_record.specs.Record.{stateOf, tracked}
+use Rattle.proxy_core.proofs.NatLaws.{nat-top, nat-passed}
+use Rattle.writer_proxy.specs.Missing.{missing, missingOf}
+use Rattle.writer_proxy.proofs.MissingLaws.{listed-last, listed-short, listed-all, end-open, ends-order, ends-list}
+use Rattle.writer_proxy.proofs.missing.missing_seqnums.Statement.{statement}
+use Rattle.writer_proxy.proofs.missing.missing_seqnums.Tie as tie
+
+-- the two ends are found: the heartbeat's end is open, they are in order, and what lies between them is the list
+ends : (c : tie.After-larger2)
+    → let s = c .before .before .before .before .before .before .before in
+    let lo = c .before .larger .result in
+    let hi = c .larger2 .result in
+    (natOf (s .args .end) ≡ top → ⊥) × (lo ≤ hi) × (hi ≤ top) × (missing lo (hi - lo) (tracked (s .args .t .now)) ≡ missingOf (s .args .start) (s .args .end) (stateOf (s .args .t .now)))
+ends c =
+    let s = c .before .before .before .before .before .before .before in
+    let a = s .args in
+    let o = ends-order (a .start) (a .end) (s .fits .start) (s .fits .end) (a .t .now) (s .pre) _ _ _ _ (c .before .before .before .before .before .nat-of .ensures) (c .before .before .nat-of2 .ensures) (c .before .before .before .before .if1 .left) (c .before .larger .ensures) (c .larger2 .ensures) in (
+      end-open (a .start) (a .end) (s .fits .start) (s .fits .end) (a .t .now) (s .pre) _ _ _ _ (c .before .before .before .before .before .nat-of .ensures) (c .before .before .nat-of2 .ensures) (c .before .before .before .before .if1 .left) (c .before .larger .ensures) (c .larger2 .ensures),
+      o .0,
+      o .1,
+      ends-list (a .start) (a .end) (s .fits .start) (s .fits .end) (a .t .now) (s .pre) _ _ _ _ (c .before .before .before .before .before .nat-of .ensures) (c .before .before .nat-of2 .ensures) (c .before .before .before .before .if1 .left) (c .before .larger .ensures) (c .larger2 .ensures),
+    )
+
+nat-of-requires : tie.Need-nat-of-requires
+nat-of-requires c κs = search needs
+
+returns : tie.Need-returns
+returns c =
+    let s = c .before .before .before in
+    let a = s .args in
+    listed-last (a .start) (a .end) (stateOf (a .t .now)) (a .out .now) (sym (nat-passed (a .end) _ (s .fits .end) (c .before .nat-of .ensures)) ∙ c .if1 .taken)
+
+shared-slice-read-larger : tie.Need-shared-slice-read-larger
+shared-slice-read-larger c = search needs
+
+nat-of-requires-2 : tie.Need-nat-of-requires-2
+nat-of-requires-2 c κs = search needs
+
+larger-requires : tie.Need-larger-requires
+larger-requires c κs = search needs
+
+add-larger : tie.Need-add-larger
+add-larger c = omega (arith, nat-passed (c .before .before .before .before .before .before .args .end) _ (c .before .before .before .before .before .before .fits .end) (c .before .before .before .before .nat-of .ensures), nat-top (c .before .before .before .before .before .before .args .end) (c .before .before .before .before .before .before .fits .end))
+
+larger-requires-2 : tie.Need-larger-requires-2
+larger-requires-2 c κs = search needs
+
+count-missing-requires : tie.Need-count-missing-requires
+count-missing-requires c κs = search needs
+
+returns-2 : tie.Need-returns-2
+returns-2 c =
+    let a = c .before .before .before .before .before .before .before .before .before .args in
+    let e = ends (c .before .before) in
+    listed-short (a .start) (a .end) (stateOf (a .t .now)) (a .out .now) (e .0) (omega (arith, c .before .count-missing .ensures, ap length (e .3), c .if2 .taken))
+
+list-missing-requires : tie.Need-list-missing-requires
+list-missing-requires c κs =
+    let e = ends (c .before .before .before) in
+    (c .before .before .before .before .before .before .before .before .before .before .pre, e .1, e .2, omega (arith, c .before .before .count-missing .ensures, c .before .if2 .left))
+
+same-length : tie.Need-same-length
+same-length c = search needs
+
+returns-3 : tie.Need-returns-3
+returns-3 c =
+    let a = c .before .before .before .before .before .before .before .before .before .before .before .before .args in
+    let e = ends (c .before .before .before .before .before) in
+    listed-all (a .start) (a .end) (stateOf (a .t .now)) (a .out .now) _ _ (e .0) (omega (arith, c .before .before .before .before .count-missing .ensures, ap length (e .3), c .before .before .before .if2 .left)) (c .before .before .before .before .count-missing .ensures ∙ ap length (e .3)) (rw (e .3) at (c .before .list-missing .ensures))
+
+pub missing-seqnums-spec : {M : Type 1} → statement M
+missing-seqnums-spec =
+    tie.close
+    (tie.spec
+    nat-of-requires
+    returns
+    shared-slice-read-larger
+    nat-of-requires-2
+    larger-requires
+    add-larger
+    larger-requires-2
+    count-missing-requires
+    returns-2
+    list-missing-requires
+    same-length
+    returns-3)

@@ -1,0 +1,26 @@
+-- `writer_proxy::query::change_status` meets its contract: a number below 0 is not tracked, and neither is 0. Assumes nothing.
+use Prim.Native.Nat.{ℕ}
+use mathlib.Core.Path.{ap, _∙_}
+use borrow.Author.Needs.{needs}
+use Rattle.proxy_record.specs.Record.{stateOf, tracked}
+use Rattle.proxy_core.specs.Calls.{cap}
+use Rattle.proxy_core.proofs.NatLaws.{nat-passed}
+use Rattle.writer_proxy.specs.Queries.{look, shown}
+use Rattle.writer_proxy.proofs.QueryLaws.{status-nat}
+use Rattle.writer_proxy.proofs.query.change_status.Statement.{statement}
+use Rattle.writer_proxy.proofs.query.change_status.Tie as tie
+
+nat-of-requires : tie.Need-nat-of-requires
+nat-of-requires c κs = search needs
+
+status-of-requires : tie.Need-status-of-requires
+status-of-requires c κs = search needs
+
+returns : tie.Need-returns
+returns c =
+    let s = c .before .before .before in
+    let k = nat-passed (s .args .number) _ (s .fits .number) (c .before .nat-of .ensures) in
+    c .status-of .ensures ∙ ap (λ (n : ℕ). shown (look n (tracked (s .args .t .now)))) k ∙ status-nat cap (s .args .number) (stateOf (s .args .t .now)) (s .pre .ok)
+
+pub change-status-spec : {M : Type 1} → statement M
+change-status-spec = tie.close (tie.spec nat-of-requires status-of-requires returns)

@@ -1,0 +1,39 @@
+-- Which numbers are missing of those that a heartbeat names. Assumes nothing.
+use Prim.Native.Nat.{ℕ, zero, suc, _-_, max}
+use mathlib.Core.Bool.{cond}
+use mathlib.Core.List.{List, [], _∷_, map}
+use lib.ListN.{length}
+use lib.Dec.{ltb, eqb}
+use lib.IntN.{ℤ, pos}
+use Rattle.sequence_number.specs.Number.{top, natOf}
+use Rattle.sequence_number.specs.Lent.{over}
+use Rattle.proxy_record.specs.Entries.{Entry}
+use Rattle.proxy_record.specs.State.{State}
+use Rattle.writer_proxy.specs.Queries.{has}
+use Rattle.writer_proxy.specs.declared.missing.Listing.{Listing}
+use Rattle.writer_proxy.specs.declared.missing.Listing.the-variants.{Listed, Refused}
+
+-- of the k numbers from lo on, those that are not tracked
+unfoldable pub missing : ℕ → ℕ → List Entry → List ℕ
+missing lo zero l = []
+missing lo (suc k) l = cond (has lo l) (missing (suc lo) k l) (lo ∷ missing (suc lo) k l)
+
+-- where the list begins: "Taking heartbeat start as the list's start when the base is higher" is the error
+abbrev pub lowest : ℤ → State → ℕ
+lowest start s = max (s .base) (natOf start)
+
+-- the untracked numbers from there through the heartbeat's end; none where start exceeds end
+abbrev pub missingOf : ℤ → ℤ → State → List ℕ
+missingOf start end s = missing (lowest start s) (suc (natOf end) - lowest start s) (s .tracked)
+
+-- the answer, and the lent list after the call
+pub record Outcome : Type 0 where
+  pub answer : Listing
+  pub output : List ℤ
+
+-- "Missing numbers: 4, then 3": row 4 "heartbeat end 2^63 - 1", row 3 "lent output shorter than the answer"
+unfoldable pub listed : ℤ → ℤ → State → List ℤ → Outcome
+listed start end s out =
+    cond (eqb (natOf end) top) (record { answer = Refused 4; output = out })
+    (cond (ltb (length out) (length (missingOf start end s))) (record { answer = Refused 3; output = out })
+    (record { answer = Listed (length (missingOf start end s)); output = over (map pos (missingOf start end s)) out }))

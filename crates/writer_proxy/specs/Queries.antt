@@ -1,0 +1,45 @@
+-- What a proxy shows of its state. Assumes nothing.
+use Prim.Native.Nat.{ℕ}
+use mathlib.Core.Bool.{Bool, true, false, cond, _||_}
+use mathlib.Core.Option.{Option, none, some}
+use mathlib.Core.List.{List, [], _∷_}
+use lib.Dec.{ltb, eqb}
+use lib.IntN.{ℤ, pos, negsuc}
+use Rattle.proxy_record.specs.Entries.{Entry, Mark, NotAvailable, Received}
+use Rattle.proxy_record.specs.State.{State}
+use Rattle.writer_proxy.specs.declared.query.Status.{Status}
+use Rattle.writer_proxy.specs.declared.query.Status.the-variants as Shown
+use Rattle.writer_proxy.specs.declared.query.Last.{Last}
+use Rattle.writer_proxy.specs.declared.query.Last.the-variants.{Nothing, Change}
+
+-- what the table says of a number
+unfoldable pub look : ℕ → List Entry → Option Mark
+look n [] = none
+look n (x ∷ l) = cond (eqb (x .number) n) (some (x .mark)) (look n l)
+
+-- whether a number is tracked
+abbrev pub given : Option Mark → Bool
+given none = false
+given (some m) = true
+
+abbrev pub has : ℕ → List Entry → Bool
+has n l = given (look n l)
+
+-- "Ignore holds exactly for a number below the base or tracked"
+abbrev pub ignored : ℤ → State → Bool
+ignored (pos n) s = ltb n (s .base) || has n (s .tracked)
+ignored (negsuc n) s = true
+
+-- "A status query (added) shows tracked state and time"
+abbrev pub shown : Option Mark → Status
+shown none = Shown.Untracked
+shown (some NotAvailable) = Shown.NotAvailable
+shown (some (Received t)) = Shown.Received t
+
+abbrev pub statusOf : ℤ → State → Status
+statusOf (pos n) s = shown (look n (s .tracked))
+statusOf (negsuc n) s = Shown.Untracked
+
+-- "The last time is absent while the last number is 0"
+unfoldable pub lastOf : State → Last
+lastOf s = cond (eqb (s .last) 0) Nothing (Change (s .last) (s .time))
