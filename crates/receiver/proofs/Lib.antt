@@ -1,3 +1,4 @@
 pub mod ExportLaws
 pub mod SetAnswers
 pub mod AssemblerLaws
+pub mod ProxyLaws

@@ -3,4 +3,5 @@
 // writes through the references, and a refused call writes nothing.
 pub mod assembler;
 pub mod numbers;
+pub mod proxy;
 pub mod sets;

@@ -1,0 +1,36 @@
+-- Laws of `specs/ProxyExports.antt`: an answer of the proxy becomes an exported one. Assumes nothing.
+use Prim.Native.Nat.{ℕ}
+use mathlib.Core.Path.{_≡_, ap, _∙_, sym}
+use mathlib.Core.List.{List}
+use lib.IntN.{ℤ}
+use Rattle.proxy_record.specs.Record.{Good}
+use Rattle.proxy_core.specs.Calls.{Reply, Answered}
+use Rattle.proxy_core.specs.declared.Report.{Report}
+use Rattle.writer_proxy.specs.Answers.{refusalOf, listingRefusalOf}
+use Rattle.writer_proxy.specs.Missing.{Outcome}
+use Rattle.writer_proxy.specs.declared.missing.Listing.{Listing}
+use Rattle.receiver.specs.ProxyExports.{oldShown, newShown, countShown, Replies, ListsMissing}
+use Rattle.proxy_record.specs.Record.{recordOf}
+
+-- x is what the definition says, and y the same by the values that reached the call below
+pub replies-out : {x y : Reply} {a : Report} {w : List ℕ} (old new : ℕ) (q : Report) → a ≡ q → y ≡ x → Answered a w y → Good w
+    → Replies x old new (refusalOf q) (oldShown q old) (newShown q new) w
+replies-out old new q p e d g =
+    let f = sym p ∙ d .0 ∙ ap (λ (z : Reply). z .report) e in
+    record {
+      answer = ap refusalOf f;
+      from = ap (λ (z : Report). oldShown z old) f;
+      to = ap (λ (z : Report). newShown z new) f;
+      after = d .1 ∙ ap (λ (z : Reply). recordOf (z .state)) e;
+      good = g;
+    }
+
+pub missing-out : {x y : Outcome} {a : Listing} {list : List ℤ} (before : ℕ) (q : Listing) → a ≡ q → y ≡ x → (a ≡ y .answer) × (list ≡ y .output)
+    → ListsMissing x before (listingRefusalOf q) (countShown q before) list
+missing-out before q p e d =
+    let f = sym p ∙ d .0 ∙ ap (λ (z : Outcome). z .answer) e in
+    record {
+      answer = ap listingRefusalOf f;
+      value = ap (λ (z : Listing). countShown z before) f;
+      entries = d .1 ∙ ap (λ (z : Outcome). z .output) e;
+    }

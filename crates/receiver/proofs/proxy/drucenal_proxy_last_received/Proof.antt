@@ -1,0 +1,32 @@
+-- `receiver::proxy::drucenal_proxy_last_received` meets its contract: the answer from below, handed on.
+-- Assumes nothing.
+use Rattle.receiver.specs.ProxyExports.{lastTime}
+use Rattle.writer_proxy.specs.Answers.{lastNumberOf}
+use Rattle.writer_proxy.specs.declared.query.Last.{Last}
+use mathlib.Core.Path.{ap, sym, _∙_}
+use borrow.Author.Needs.{needs}
+use Rattle.receiver.proofs.proxy.drucenal_proxy_last_received.Statement.{statement}
+use Rattle.receiver.proofs.proxy.drucenal_proxy_last_received.Tie as tie
+
+last-change-requires : tie.Need-last-change-requires
+last-change-requires c κs = search needs
+
+enum-told : tie.Need-enum-told
+enum-told c = search needs
+
+enum-known-n : tie.Need-enum-known-n
+enum-known-n c = search needs
+
+returns : tie.Need-returns
+returns c =
+    let e = sym (c .enum-told .given .1) ∙ c .before .before .last-change .ensures in
+    (ap lastNumberOf e, ap (λ (l : Last). lastTime l (c .before .before .before .before .args .time .now)) e)
+
+returns-2 : tie.Need-returns-2
+returns-2 c =
+    let e = sym (c .before .n .given .1) ∙ c .before .before .before .last-change .ensures in
+    (ap lastNumberOf e, ap (λ (l : Last). lastTime l (c .before .before .before .before .before .args .time .now)) e)
+
+pub drucenal-proxy-last-received-spec : {M : Type 1} → statement M
+drucenal-proxy-last-received-spec =
+    tie.close (tie.spec last-change-requires enum-told enum-known-n returns returns-2)
