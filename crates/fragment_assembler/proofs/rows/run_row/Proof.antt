@@ -1,4 +1,4 @@
--- `fragment_assembler::rows::run_row` meets its contract
+-- `fragment_assembler::rows::run_row` meets its contract: number and time are stored, and the part lent on comes back marked. Assumes nothing.
 use native.Mathlib.Omega.{arith}
 use lib.ListN.{length-set}
 use borrow.Author.Needs.{needs}
