@@ -12,13 +12,14 @@ use lib.Dec.{leb, eqb}
 use Rattle.sequence_number.specs.Number.{top, numberOf, isNumber}
 use Rattle.sequence_number.specs.Lent.{over}
 use Rattle.fragment_assembler.proofs.CallLaws.{fragment-ok}
-use Rattle.fragment_assembler.proofs.CleanLaws.{clean-cases, clean-ok, at-sweep, swept-early, swept-late, listed-rising, listed-stale, stale-listed}
+use Rattle.fragment_assembler.proofs.CleanLaws.{clean-cases, clean-ok, at-sweep, swept-early, swept-late}
 use Rattle.fragment_assembler.proofs.FragmentsLaws.{fragments-cover, fragment-starts, fragments-some, fragments-on-paper}
 use Rattle.fragment_assembler.proofs.MissingLaws.{missing-cases, missing-members, missing-rises, missing-absent}
 use Rattle.fragment_assembler.proofs.PlacingLaws.{placed-seat, placed-long, placed-run, placed-fragment, placed-zero, placed-others, placed-others-opening, ran-as, ends-returned, ends-drops, ends-keeps, ends-dropped-only, ends-returned-only, refused-exactly, refused-leaves, shown-whole}
 use Rattle.fragment_assembler.proofs.RefusalLaws.{number-row}
 use Rattle.fragment_assembler.proofs.RulesLaws.{ok-back, ok-good}
 use Rattle.fragment_assembler.proofs.SetUpLaws.{set-up-exactly, empty-ok, set-up-record}
+use Rattle.fragment_assembler.proofs.StaleLaws.{listed-rising, listed-stale, stale-listed}
 use Rattle.fragment_assembler.proofs.TableLaws.{highest-found, highest-ge, lowest-found, lowest-le, query-found, query-finds}
 use Rattle.fragment_assembler.specs.Call.{fragment, Work, begin, run, runLength, runAt, kept, returned, isWhole, dropped, victim, refused}
 use Rattle.fragment_assembler.specs.Clean.{clean, staleNumbers, cleaning, sweep}
