@@ -17,7 +17,7 @@ use Rattle.fragment_assembler.specs.Clean.{Cleaning}
 use Rattle.fragment_assembler.specs.Promise.{Does, Cleans}
 use Rattle.fragment_assembler.specs.Refusal.{Call, refusal}
 use Rattle.fragment_assembler.specs.Rules.{Ok, Good}
-use Rattle.no_starvation.specs.Starve.{after, moment, arrives, said, cleans, isRefused, Run, Calls, start, own, other, cleaned, Chain, Moment, runOf, returns, Bounded, Cut, Answered}
+use Rattle.no_starvation.specs.Starve.{after, moment, arrives, said, cleans, isRefused, Run, Calls, Chain, Moment, runOf, returns, Bounded, Cut, Answered}
 use Rattle.fragment_assembler.specs.State.{Assembler}
 use Rattle.fragment_assembler.specs.Table.{count}
 use Rattle.fragment_assembler.specs.View.{shown}

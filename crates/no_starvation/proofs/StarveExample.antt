@@ -15,7 +15,7 @@ use Rattle.fragment_assembler.specs.Fragments.{fragments}
 use Rattle.fragment_assembler.specs.Marks.{marked, mark}
 use Rattle.fragment_assembler.specs.Refusal.{Call, callOf, rows}
 use Rattle.fragment_assembler.specs.SetUp.{empty}
-use Rattle.no_starvation.specs.Starve.{Moment, moment, other, after, arrives, cleans, Run, runOf, Chain, looks, own, start, said}
+use Rattle.no_starvation.specs.Starve.{Moment, moment, after, arrives, cleans, Run, runOf, Chain, looks, said}
 use Rattle.fragment_assembler.specs.Table.{has}
 use Rattle.fragment_assembler.specs.View.{shown}
 use Rattle.no_starvation.specs.Starve as starve
