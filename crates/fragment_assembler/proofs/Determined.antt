@@ -6,14 +6,14 @@ use mathlib.Core.Bool.{Bool}
 use mathlib.Core.List.{List}
 use lib.IntN.{ℤ}
 use Rattle.sequence_number.specs.Number.{numberOf}
-use Rattle.fragment_assembler.specs.Call.{Fate, refused, kept, returned, dropped, fateOf, outcome, Outcome}
-use Rattle.fragment_assembler.specs.Clean.{clean, cleaning, Cleaning}
-use Rattle.fragment_assembler.specs.Listing.{Told, wrote}
-use Rattle.fragment_assembler.specs.Missing.{toldOf, missing, missed, Missed}
+use Rattle.fragment_assembler.specs.Call.{Fate, fateOf, outcome, Outcome}
+use Rattle.fragment_assembler.specs.Clean.{cleaning, Cleaning}
+use Rattle.fragment_assembler.specs.Listing.{Told}
+use Rattle.fragment_assembler.specs.Missing.{missed, Missed}
 use Rattle.fragment_assembler.specs.Promise.{SetsUp, Does, Cleans, Misses}
 use Rattle.fragment_assembler.specs.Refusal.{Call}
 use Rattle.fragment_assembler.specs.Rules.{Good}
-use Rattle.fragment_assembler.specs.SetUp.{Started, ready, startedOf, setting, Setting}
+use Rattle.fragment_assembler.specs.SetUp.{Started, startedOf, setting, Setting}
 use Rattle.fragment_assembler.specs.Table.{inAssembly, count}
 use Rattle.fragment_assembler.specs.View.{shown}
 use Rattle.fragment_assembler.specs.Words.{stateOf, recordOf}

@@ -11,6 +11,7 @@ pub mod CallLaws
 pub mod InnerLaws
 pub mod SetUpLaws
 pub mod ViewLaws
+pub mod StaleLaws
 pub mod CleanLaws
 pub mod MissingLaws
 pub mod PlacingLaws

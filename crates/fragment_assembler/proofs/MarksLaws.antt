@@ -15,7 +15,7 @@ use lib.Bits.{bitOr, bitAnd, or-shr, or-step, or-add-and, and-high}
 use lib.Pow.{pow-pos, pow-lt, pow-add, shl-shr}
 use borrow.Author.Tests.{ltb-true, ltb-false, leb-true, leb-false, eqb-true, eqb-false, lt-ltb, le-ltb, eq-eqb, ne-eqb}
 use Rattle.sequence_number.proofs.Split.{split}
-use Rattle.fragment_assembler.specs.Marks.{markRun, mark, withBit, marked, covers, all}
+use Rattle.fragment_assembler.specs.Marks.{mark, markRun, withBit, marked, covers, all}
 
 pub length-run : (m : List ℕ) (k n : ℕ) → length (markRun m k n) ≡ length m
 unfolding mark

@@ -12,13 +12,14 @@ use lib.Dec.{leb, eqb}
 use Rattle.sequence_number.specs.Number.{top, numberOf, isNumber}
 use Rattle.sequence_number.specs.Lent.{over}
 use Rattle.fragment_assembler.proofs.CallLaws.{fragment-ok}
-use Rattle.fragment_assembler.proofs.CleanLaws.{clean-cases, clean-ok, at-sweep, swept-early, swept-late, listed-rising, listed-stale, stale-listed}
+use Rattle.fragment_assembler.proofs.CleanLaws.{clean-cases, clean-ok, at-sweep, swept-early, swept-late}
 use Rattle.fragment_assembler.proofs.FragmentsLaws.{fragments-cover, fragment-starts, fragments-some, fragments-on-paper}
 use Rattle.fragment_assembler.proofs.MissingLaws.{missing-cases, missing-members, missing-rises, missing-absent}
 use Rattle.fragment_assembler.proofs.PlacingLaws.{placed-seat, placed-long, placed-run, placed-fragment, placed-zero, placed-others, placed-others-opening, ran-as, ends-returned, ends-drops, ends-keeps, ends-dropped-only, ends-returned-only, refused-exactly, refused-leaves, shown-whole}
 use Rattle.fragment_assembler.proofs.RefusalLaws.{number-row}
 use Rattle.fragment_assembler.proofs.RulesLaws.{ok-back, ok-good}
-use Rattle.fragment_assembler.proofs.SetUpLaws.{set-up-exactly, empty-ok}
+use Rattle.fragment_assembler.proofs.SetUpLaws.{set-up-exactly, empty-ok, set-up-record}
+use Rattle.fragment_assembler.proofs.StaleLaws.{listed-rising, listed-stale, stale-listed}
 use Rattle.fragment_assembler.proofs.TableLaws.{highest-found, highest-ge, lowest-found, lowest-le, query-found, query-finds}
 use Rattle.fragment_assembler.specs.Call.{fragment, Work, begin, run, runLength, runAt, kept, returned, isWhole, dropped, victim, refused}
 use Rattle.fragment_assembler.specs.Clean.{clean, staleNumbers, cleaning, sweep}
@@ -26,13 +27,15 @@ use Rattle.fragment_assembler.specs.Fragments.{fragments, fragmentsOnPap
 use Rattle.fragment_assembler.specs.Listing.{wrote}
 use Rattle.fragment_assembler.specs.Marks.{marked, covers}
 use Rattle.fragment_assembler.specs.Missing.{missing, missingFor, missed}
+use Rattle.fragment_assembler.specs.Promise.{SetsUp}
 use Rattle.fragment_assembler.specs.Refusal.{Call, refusal, GivenBy, rows}
-use Rattle.fragment_assembler.specs.Rules.{Ok, Distinct, Good}
-use Rattle.fragment_assembler.specs.SetUp.{setUp, setUpRows, setting, empty}
+use Rattle.fragment_assembler.specs.Rules.{Ok, Good, Distinct}
+use Rattle.fragment_assembler.specs.SetUp.{setUp, setUpRows, setting, empty, startedOf, ready}
 use Rattle.fragment_assembler.specs.State.{Assembler, free, at, Place, withPlaces}
 use Rattle.fragment_assembler.specs.Table.{has, find, count, inAssembly}
 use Rattle.fragment_assembler.specs.View.{shown}
 use Rattle.fragment_assembler.specs.Words.{stateOf, recordOf}
+use Rattle.fragment_assembler.specs.declared.Start.{Start}
 use Rattle.fragment_assembler.specs.Listing as told
 use Rattle.fragment_assembler.specs.SetUp as started
 
@@ -182,6 +185,11 @@ fragment-rules = fragment-ok
 
 pub clean-rules : (a : Assembler) (t : ℕ) (out : List ℤ) → Ok a → Ok (clean a t out .state)
 clean-rules = clean-ok
+
+-- what set-up leaves in a record's own 906 words is a record by the rules
+pub set-up-leaves : (w : List ℕ) (f : ℕ) (reliable : Bool) (p : ℕ) (r : Start) (w′ : List ℕ) → SetsUp w f reliable p r w′ → length w′ ≡ 906
+    → startedOf r ≡ ready → Good w′
+set-up-leaves = set-up-record
 
 -- "at most 128 in assembly after a call", and no number stands at two places
 pub after-a-call : (a : Assembler) (area : List ℕ) (c : Call) → Ok a

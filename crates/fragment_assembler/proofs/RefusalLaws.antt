@@ -15,7 +15,7 @@ use Rattle.sequence_number.proofs.Split.{split, split-lt}
 use Rattle.fragment_assembler.specs.Call.{opened}
 use Rattle.fragment_assembler.specs.Fragments.{fragments}
 use Rattle.fragment_assembler.specs.Inner.{RunOk}
-use Rattle.fragment_assembler.specs.Refusal.{runRefusal, row, rows, Call, refusal, opens, first, runRows, Row, callOf, sizeFor, GivenBy}
+use Rattle.fragment_assembler.specs.Refusal.{runRefusal, rows, row, Call, refusal, opens, first, runRows, Row, callOf, sizeFor, GivenBy}
 use Rattle.fragment_assembler.specs.State.{Assembler, at}
 use Rattle.fragment_assembler.specs.Table.{count, find, has}
 

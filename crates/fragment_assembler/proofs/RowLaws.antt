@@ -7,7 +7,7 @@ use lib.ListN.{length, set, take, drop, replicate, length-append, length-take, l
 use lib.Seq.{take-all}
 use Rattle.fragment_assembler.specs.Inner.{openedRow, ran}
 use Rattle.fragment_assembler.specs.Marks.{markRun}
-use Rattle.fragment_assembler.specs.State.{at, free, Place}
+use Rattle.fragment_assembler.specs.State.{free, Place}
 use Rattle.fragment_assembler.specs.Words.{placeOf}
 
 pub opened-row : (k n s : ℕ) (z : List ℕ) → k ≡ 7 → z ≡ replicate k 0 → set (set z 0 n) 1 s ≡ openedRow n s

@@ -6,7 +6,7 @@ use mathlib.Core.Bool.{Bool}
 use mathlib.Core.Logic.{inl}
 use mathlib.Core.List.{List, _∷_, _++_}
 use lib.ListN.{length, set, take, drop, replicate, length-replicate}
-use lib.Seq.{take-at}
+use lib.Seq.{take-all, take-at}
 use lib.Dec.{eqb}
 use borrow.Author.Tests.{lt-ltb, le-ltb, eq-eqb, ne-eqb}
 use Rattle.sequence_number.specs.Lent.{over}
@@ -16,10 +16,11 @@ use Rattle.fragment_assembler.proofs.RulesLaws.{ok-good}
 use Rattle.fragment_assembler.specs.Promise.{SetsUp}
 use Rattle.fragment_assembler.specs.Refusal.{GivenBy}
 use Rattle.fragment_assembler.specs.Rules.{Ok, Good}
-use Rattle.fragment_assembler.specs.SetUp.{empty, setUpRefusal, setUp, setting, refused, ready, setUpRows}
+use Rattle.fragment_assembler.specs.SetUp.{empty, setUp, setUpRefusal, setting, refused, ready, setUpRows, startedOf}
 use Rattle.fragment_assembler.specs.State.{at, free, Place}
 use Rattle.fragment_assembler.specs.Table.{count}
 use Rattle.fragment_assembler.specs.Words.{tableOf, bit, recordOf}
+use Rattle.fragment_assembler.specs.declared.Start.{Start}
 use Rattle.fragment_assembler.specs.declared.Start.the-variants.{Refused, Ready}
 
 -- ---- a fresh assembler
@@ -124,3 +125,8 @@ set-up-exactly f reliable p w n h =
           let q : setUpRefusal f p (length w) ≡ n = x .1 r in
           rw (ne-eqb (setUpRefusal f p (length w)) 0 (λ z. omega (arith, q, z))) (ap (λ (k : ℕ). setting (refused k) w) q),
     )
+
+-- set up in exactly 906 words: the words are the record
+pub set-up-record : (w : List ℕ) (f : ℕ) (reliable : Bool) (p : ℕ) (r : Start) (w′ : List ℕ) → SetsUp w f reliable p r w′ → length w′ ≡ 906
+    → startedOf r ≡ ready → Good w′
+set-up-record w f reliable p r w′ h l e = subst Good (take-all 906 w′ (omega arith)) (h .good e)

@@ -154,18 +154,6 @@ module _ (test : Place → Bool) where
       let ih = howMany-lacks ps j (le-of-suc-le-suc l) e in
       split (test p) (λ t. rw t (omega arith)) (λ t. rw t (omega arith))
 
-  pub howMany-has : (ps : List Place) → 0 < howMany test ps → (j : ℕ) × (j < length ps) × (test (at ps j) ≡ true)
-  howMany-has [] h = absurd (not-suc-le-zero h)
-  howMany-has (p ∷ ps) h =
-      split (test p) (λ e. (0, omega arith, e)) (λ e. let w = howMany-has ps (rw e at h) in (suc (w .0), omega (arith, w .1), w .2))
-
-  pub has-howMany : (ps : List Place) (j : ℕ) → j < length ps → test (at ps j) ≡ true → 0 < howMany test ps
-  has-howMany [] j l e = absurd (not-suc-le-zero l)
-  has-howMany (p ∷ ps) zero l e = rw e (omega arith)
-  has-howMany (p ∷ ps) (suc j) l e =
-      let ih = has-howMany ps j (le-of-suc-le-suc l) e in
-      split (test p) (λ t. rw t (omega arith)) (λ t. rw t ih)
-
 -- all are in assembly exactly where no place is free
 pub count-full : (ps : List Place) → length ps ≤ find 0 ps → count ps ≡ length ps
 count-full ps h =

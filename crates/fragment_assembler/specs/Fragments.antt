@@ -9,7 +9,7 @@ use lib.Dec.{eqb}
 unfoldable pub fragments : ℕ → ℕ → ℕ
 fragments d f = (d + (f - 1)) / f
 
--- the same as RTPS writes it: one more for a rest
+-- the same as RTPS 2.5 writes it (8.3.8.3.5): "(dataSize / fragmentSize) + ((dataSize % fragmentSize) ? 1 : 0)"
 abbrev pub fragmentsOnPaper : ℕ → ℕ → ℕ
 fragmentsOnPaper d f = d / f + cond (eqb (d % f) 0) 0 1
 

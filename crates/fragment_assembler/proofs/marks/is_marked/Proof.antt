@@ -1,4 +1,4 @@
--- `fragment_assembler::marks::is_marked` meets its contract
+-- `fragment_assembler::marks::is_marked` meets its contract: the shift and the rest are the definition. Assumes nothing.
 use borrow.Author.Needs.{needs}
 use Rattle.fragment_assembler.specs.Marks.{marked}
 use Rattle.fragment_assembler.proofs.marks.is_marked.Statement.{statement}

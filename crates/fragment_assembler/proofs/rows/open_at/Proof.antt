@@ -1,4 +1,4 @@
--- `fragment_assembler::rows::open_at` meets its contract
+-- `fragment_assembler::rows::open_at` meets its contract: the row that is lent comes back as the opened place. Assumes nothing.
 use mathlib.Core.Path.{ap}
 use borrow.Author.Needs.{needs}
 use Rattle.fragment_assembler.proofs.WordsLaws.{lent-as}

@@ -1,4 +1,4 @@
--- `fragment_assembler::rows::open_row` meets its contract
+-- `fragment_assembler::rows::open_row` meets its contract: zeros with the number and the size stored over them. Assumes nothing.
 use borrow.Author.Needs.{needs}
 use Rattle.fragment_assembler.proofs.RowLaws.{opened-row}
 use Rattle.fragment_assembler.proofs.rows.open_row.Statement.{statement}

@@ -1,4 +1,4 @@
--- `fragment_assembler::rows::run_at` meets its contract
+-- `fragment_assembler::rows::run_at` meets its contract: the row that is lent stands for the place, and comes back as the place after the run. Assumes nothing.
 use mathlib.Core.Path.{ap, _∙_}
 use borrow.Author.Needs.{needs}
 use Rattle.fragment_assembler.proofs.WordsLaws.{lent-as, row-is}

@@ -1,8 +1,8 @@
--- `fragment_assembler::rows::run_row` meets its contract
+-- `fragment_assembler::rows::run_row` meets its contract: number and time are stored, and the part lent on comes back marked. Assumes nothing.
 use native.Mathlib.Omega.{arith}
 use lib.ListN.{length-set}
 use borrow.Author.Needs.{needs}
-use Rattle.fragment_assembler.proofs.RowLaws.{ran-row-long, ran-row}
+use Rattle.fragment_assembler.proofs.RowLaws.{ran-row, ran-row-long}
 use Rattle.fragment_assembler.proofs.rows.run_row.Statement.{statement}
 use Rattle.fragment_assembler.proofs.rows.run_row.Tie as tie
 

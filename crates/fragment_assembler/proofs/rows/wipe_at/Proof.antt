@@ -1,4 +1,4 @@
--- `fragment_assembler::rows::wipe_at` meets its contract
+-- `fragment_assembler::rows::wipe_at` meets its contract: the row that is lent comes back as a free place. Assumes nothing.
 use borrow.Author.Needs.{needs}
 use Rattle.fragment_assembler.proofs.RowLaws.{wiped-row}
 use Rattle.fragment_assembler.proofs.WordsLaws.{lent-as, row-long}

@@ -1,4 +1,4 @@
--- `fragment_assembler::table::highest` meets its contract
+-- `fragment_assembler::table::highest` meets its contract: h is the highest number of the first i places. Assumes nothing.
 use Prim.Native.Nat.{ℕ, _+_, _-_, _≤_, max}
 use native.Mathlib.Omega.{arith}
 use native.Mathlib.Numerals.{add-one}

@@ -1,4 +1,4 @@
--- `fragment_assembler::table::pick_victim` meets its contract
+-- `fragment_assembler::table::pick_victim` meets its contract: the mode says which end of the numbers goes. Assumes nothing.
 use borrow.Author.Tests.{eq-eqb, ne-eqb}
 use borrow.Author.Needs.{needs}
 use Rattle.fragment_assembler.proofs.table.pick_victim.Statement.{statement}

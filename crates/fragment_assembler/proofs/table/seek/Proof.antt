@@ -1,4 +1,4 @@
--- `fragment_assembler::table::seek` meets its contract
+-- `fragment_assembler::table::seek` meets its contract: no place passed has the number. Assumes nothing.
 use Prim.Native.Nat.{ℕ, _-_, _≤_, _<_}
 use native.Mathlib.Omega.{arith}
 use mathlib.Core.Path.{_≡_, sym, _∙_}

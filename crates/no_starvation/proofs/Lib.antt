@@ -1,0 +1,4 @@
+pub mod StarveLaws
+pub mod StarveCalls
+pub mod StarveExample
+pub mod StarveNeeds
