@@ -1,3 +1,4 @@
+-- `proxy_core::range::skip_to` meets its contract: what is below b goes, b is the base, and it moves on. Assumes nothing.
 use native.Mathlib.Omega.{arith}
 use lib.ListN.{length-set}
 use borrow.Author.Needs.{needs}
