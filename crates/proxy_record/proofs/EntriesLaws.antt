@@ -5,8 +5,7 @@ use native.Mathlib.Nat.{le-of-suc-le-suc, not-suc-le-zero}
 use mathlib.Core.Logic.{⊎-elim}
 use mathlib.Core.Path.{_≡_, refl, ap}
 use mathlib.Core.List.{List, [], _∷_}
-use lib.ListN.{length, take, drop, getD, length-append, drop-of-length-le}
-use lib.Seq.{drop-cons}
+use lib.ListN.{length, take, drop, getD, length-append}
 use borrow.Author.Tests.{lt-ltb, le-ltb, le-leb, lt-leb, eq-eqb, ne-eqb}
 use Rattle.sequence_number.proofs.Split.{split-lt, split-eq}
 use Rattle.proxy_record.specs.Entries.{Entry, blank, Rising, below, from, rank, putIn, runLen, insert, replace}
@@ -186,15 +185,6 @@ from-put lo hi e l r h =
     rw (below-none lo hi (e .number) l r z, from-all lo hi (suc (e .number)) l r h, from-skip lo e l h) (from-all lo hi lo l r (omega arith))
 
 -- a run
-pub run-within : (b : ℕ) (l : List Entry) → runLen b l ≤ length l
-unfolding runLen
-run-within b [] = omega arith
-run-within b (x ∷ l) =
-    ⊎-elim
-    (λ h. rw (eq-eqb (x .number) b h) (omega (arith, run-within (suc b) l)))
-    (λ h. rw (ne-eqb (x .number) b h) (omega arith))
-    (split-eq (x .number) b)
-
 pub run-bound : (lo hi b : ℕ) (l : List Entry) → Rising lo hi l → b ≤ hi → b + runLen b l ≤ hi
 unfolding runLen
 run-bound lo hi b [] r h = omega arith
@@ -217,32 +207,4 @@ from-run lo hi b (x ∷ l) r h =
     rw (eq-eqb (x .number) b e, lt-leb (b + suc (runLen (suc b) l)) (x .number) q, k)
     (from-run (suc (x .number)) hi (suc b) l (r .2) z))
     (λ e. rw (ne-eqb (x .number) b e) (from-all lo hi (b + 0) (x ∷ l) r (omega arith)))
-    (split-eq (x .number) b)
-
--- one more of a run, and its end
-pub run-more : (b : ℕ) (l : List Entry) (i : ℕ) → i < length l → getD l i blank .number ≡ b → runLen b (drop i l) ≡ suc (runLen (suc b) (drop (suc i) l))
-unfolding runLen
-run-more b l i h e = rw (drop-cons l i blank h, eq-eqb _ _ e)
-
-pub run-stop : (b : ℕ) (l : List Entry) (i : ℕ) → i < length l → (getD l i blank .number ≡ b → ⊥) → runLen b (drop i l) ≡ 0
-unfolding runLen
-run-stop b l i h e = rw (drop-cons l i blank h, ne-eqb _ _ e)
-
-pub run-end : (b : ℕ) (l : List Entry) (i : ℕ) → length l ≤ i → runLen b (drop i l) ≡ 0
-unfolding runLen
-run-end b l i h = rw (drop-of-length-le l h)
-
--- what is left after a run lies above its end
-pub run-open : (lo hi b : ℕ) (l : List Entry) → Rising lo hi l → b ≤ lo → Rising (suc (b + runLen b l)) hi (drop (runLen b l) l)
-unfolding runLen
-run-open lo hi b [] r h = tt
-run-open lo hi b (x ∷ l) r h =
-    ⊎-elim
-    (λ e.
-    let k : b + suc (runLen (suc b) l) ≡ suc b + runLen (suc b) l = omega arith in
-    let z : suc b ≤ suc (x .number) = omega arith in
-    rw (eq-eqb (x .number) b e, k) (run-open (suc (x .number)) hi (suc b) l (r .2) z))
-    (λ e.
-    let z : suc (b + 0) ≤ x .number = omega (arith, r .0) in
-    rw (ne-eqb (x .number) b e) (z, r .1, r .2))
     (split-eq (x .number) b)

@@ -36,12 +36,12 @@ use Rattle.writer_proxy.specs.Queries.{look, ignored, statusOf, lastOf}
 use Rattle.writer_proxy.specs.Missing.{missing, lowest, missingOf, listed}
 use Rattle.writer_proxy.specs.Counter.{nextCount, fresh, handedOut}
 use Rattle.writer_proxy.specs.Statements.{Tracked, Ascending, NotTaken}
-use Rattle.writer_proxy.specs.Answers.{refusalOf, listingRefusalOf}
+use Rattle.writer_proxy.specs.Answers.{refusalOf, oldOf, newOf, listingRefusalOf, countOf, statusNumberOf, lastNumberOf, lastTimeOf}
 use Rattle.writer_proxy.proofs.TrackedLaws.{has-tracked, not-tracked, moved-past, moved-stops}
 use Rattle.writer_proxy.proofs.ShownLaws.{look-put, look-kept, look-each-out, look-each-in}
 use Rattle.writer_proxy.proofs.MissingLaws.{listed-all, missing-has, missing-ascends}
 use Rattle.writer_proxy.proofs.CounterLaws.{next-wraps}
-use Rattle.writer_proxy.proofs.Refusals.{not-taken, refused-unless, refused-if, unless-same, if-same, received-accepted, irrelevant-accepted, range-accepted, end-top, start-low, end-high, crossed, received-number-at, irrelevant-number-at, range-number-at}
+use Rattle.writer_proxy.proofs.Refusals.{not-taken, refused-unless, refused-if, unless-same, if-same, received-accepted, irrelevant-accepted, range-accepted, end-top, start-low, end-high, crossed, received-number-at, irrelevant-number-at, range-number-at, status-number}
 use Rattle.writer_proxy.specs.declared.missing.Listing.the-variants as Listing
 
 -- "their own rules hold, shown kept by every call": among them "Never more than 256 numbers are tracked after a call"
@@ -141,6 +141,9 @@ module _ (start end : ℤ) (s : State) (o : Ok cap s) where
       let a = listed-all start end s out (length (missingOf start end s)) (over (map pos (missingOf start end s)) out) (λ e. n (end-top end .0 e)) h refl refl in
       (sym (a .0), sym (a .1))
 
+  pub missing-count-said : (out : List ℤ) → (end ≡ pos top → ⊥) → length (missingOf start end s) ≤ length out → countOf (listed start end s out .answer) ≡ length (missingOf start end s)
+  missing-count-said out n h = ap countOf (missing-listed out n h .0)
+
 -- "Else each is put not available, over what was there": a range above the base is its numbers put one by one, and then the cap
 pub range-is-puts : (a b : ℤ) (s : State) → ltZ b a ≡ false → s .base < natOf a → irrelevantRange a b s ≡ ended (putEach (natOf a) (natOf b - natOf a) s)
 unfolding irrelevantRange
@@ -179,6 +182,26 @@ missing-number start end s out =
 pub set-up-number : (w : List ℕ) → refusalOf (setUp w .report) ≡ cond (ltb (length w) size) 3 0
 unfolding setUp
 set-up-number w = split (ltb (length w) size) (λ e. rw e) (λ e. rw e)
+
+-- "The answer reports a forced step with old and new base"
+pub forced-said : (s : State) → cap < length (s .tracked) → (oldOf (ended s .report) ≡ s .base) × (newOf (ended s .report) ≡ ended s .state .base)
+unfolding ended
+forced-said s h = rw (lt-ltb cap (length (s .tracked)) h) (refl, refl)
+
+-- "The last time is absent while the last number is 0"
+pub last-said : (s : State) → (lastNumberOf (lastOf s) ≡ s .last) × ((s .last ≡ 0 → ⊥) → lastTimeOf (lastOf s) ≡ s .time)
+unfolding lastOf
+last-said s =
+    ⊎-elim
+    (λ e. rw (eq-eqb (s .last) 0 e) (sym e, λ h. absurd (h e)))
+    (λ e. rw (ne-eqb (s .last) 0 e) (refl, λ h. refl))
+    (split-eq (s .last) 0)
+
+-- a status is 0 exactly for a number that is not tracked
+pub status-said : (n : ℕ) (s : State) → (statusNumberOf (statusOf (pos n) s) ≡ 0) ↔ (Tracked n (s .tracked) → ⊥)
+status-said n s =
+    let e = status-number (look n (s .tracked)) in
+    (λ h. not-tracked n (s .tracked) .0 (e .0 h), λ h. e .1 (not-tracked n (s .tracked) .1 h))
 
 -- 4: "number below 1 or equal to 2^63 - 1 in received, one irrelevant"
 module _ (n : ℤ) (f : SFits w64 n) (s : State) where

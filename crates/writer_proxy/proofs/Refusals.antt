@@ -4,6 +4,7 @@ use native.Mathlib.Omega.{arith}
 use mathlib.Core.Logic.{inl, inr, ⊎-elim, _↔_}
 use mathlib.Core.Path.{_≡_, refl, sym, ap}
 use mathlib.Core.Bool.{Bool, true, false, cond}
+use mathlib.Core.Option.{Option, none, some}
 use lib.ListN.{length}
 use lib.Dec.{ltb, leb}
 use lib.IntN.{ℤ, pos, negsuc}
@@ -13,12 +14,14 @@ use mir.Val.{SFits}
 use borrow.Author.Tests.{lt-ltb, le-ltb, ltb-true, le-leb, leb-true}
 use Rattle.sequence_number.specs.Number.{top, isNumber, natOf}
 use Rattle.sequence_number.proofs.Split.{split, split-lt}
+use Rattle.proxy_record.specs.Entries.{Mark, NotAvailable, Received}
 use Rattle.proxy_record.specs.State.{State}
 use Rattle.proxy_core.specs.declared.Report.the-variants.{Refused}
 use Rattle.proxy_core.specs.Calls.{Reply, noted, put, settled, cap, ended, refused, got, lost, receivedAt, irrelevantAt, skipped, putEach, rangeAt}
 use Rattle.proxy_core.proofs.CallsLaws.{ended-accepted}
+use Rattle.writer_proxy.specs.Queries.{given, shown}
 use Rattle.writer_proxy.specs.Statements.{NotTaken}
-use Rattle.writer_proxy.specs.Answers.{refusalOf}
+use Rattle.writer_proxy.specs.Answers.{refusalOf, statusNumberOf}
 
 -- row 4 over an i64
 pub not-taken : (n : ℤ) → SFits w64 n → (isNumber n ≡ false) ↔ NotTaken n
@@ -99,3 +102,9 @@ irrelevant-number-at n s = ended-number (settled n (cond (ltb n (s .base)) s (pu
 pub range-number-at : (a b : ℕ) (s : State) → refusalOf (rangeAt a b s .report) ≡ 0
 unfolding rangeAt
 range-number-at a b s = ended-number (cond (leb a (s .base)) (skipped a b s) (putEach a (b - a) s))
+
+-- a status's number
+pub status-number : (o : Option Mark) → (statusNumberOf (shown o) ≡ 0) ↔ (given o ≡ false)
+status-number none = (λ h. refl, λ h. refl)
+status-number (some NotAvailable) = (λ h. absurd (omega arith), λ h. let z : _≡_ {A = ℕ} 0 1 = cc in absurd (omega arith))
+status-number (some (Received t)) = (λ h. absurd (omega arith), λ h. let z : _≡_ {A = ℕ} 0 1 = cc in absurd (omega arith))

@@ -10,7 +10,7 @@ slice-read-len : tie.Need-slice-read-len
 slice-read-len c = search needs
 
 returns : tie.Need-returns
-returns c = cap-none _ (c .before .before .before .pre) (c .if1 .taken)
+returns c = cap-none _ (c .before .before .before .pre) (omega (arith, c .if1 .taken))
 
 slice-read-old : tie.Need-slice-read-old
 slice-read-old c = search needs

@@ -1,3 +1,4 @@
+-- `proxy_core::base::track` meets its contract: 257 are tracked at most after the put, and only the base's own number moves it on. Assumes nothing.
 use borrow.Author.Needs.{needs}
 use Rattle.proxy_record.specs.Record.{entryOf}
 use Rattle.proxy_core.proofs.StepLaws.{put-good, track-above, advanced-good, track-base}

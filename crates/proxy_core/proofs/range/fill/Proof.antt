@@ -1,3 +1,4 @@
+-- `proxy_core::range::fill` meets its contract: the rest of the numbers leads from the record as it stands to the same state. Assumes nothing.
 use Prim.Native.Nat.{_-_, _≤_}
 use native.Mathlib.Omega.{arith}
 use mathlib.Core.Path.{_≡_, refl}

@@ -1,3 +1,4 @@
+-- `proxy_core::range::skip_to` meets its contract: what is below b goes, b is the base, and it moves on. Assumes nothing.
 use native.Mathlib.Omega.{arith}
 use lib.ListN.{length-set}
 use borrow.Author.Needs.{needs}
@@ -10,7 +11,7 @@ slice-read-if1 : tie.Need-slice-read-if1
 slice-read-if1 c = search needs
 
 returns : tie.Need-returns
-returns c = skip-none (c .before .before .before .args .t .now) (c .before .before .before .pre .0) (c .before .before .before .args .b) (c .before .before .before .pre .1) (c .if1 .taken)
+returns c = skip-none (c .before .before .before .args .t .now) (c .before .before .before .pre .0) (c .before .before .before .args .b) (c .before .before .before .pre .1) (omega (arith, c .if1 .taken))
 
 slice-read-len : tie.Need-slice-read-len
 slice-read-len c = search needs
@@ -38,7 +39,7 @@ slice-write-t c = search needs
 advance-ack-base-requires : tie.Need-advance-ack-base-requires
 advance-ack-base-requires c κs =
     let s = c .before .before .before .before .before .before .before .before .before .before .before .before in
-    skip-good (s .args .t .now) (s .pre .0) (s .args .b) (s .pre .1) (c .before .before .before .before .before .before .before .before .before .if1 .left) _ (c .before .before .before .before .before .place-of .ensures) _ (c .before .before .before .shut-rows .ensures)
+    skip-good (s .args .t .now) (s .pre .0) (s .args .b) (s .pre .1) (omega (arith, c .before .before .before .before .before .before .before .before .before .if1 .left)) _ (c .before .before .before .before .before .place-of .ensures) _ (c .before .before .before .shut-rows .ensures)
 
 same-length : tie.Need-same-length
 same-length c = omega (arith, simp length-set at (c .before .before .advance-ack-base .kept .0), c .before .before .before .before .before .before .shut-rows .kept .0)

@@ -1,3 +1,4 @@
+-- `proxy_core::received::received_any` meets its contract: a number below the base is only noted, and any other is tracked. Assumes nothing.
 use native.Mathlib.Omega.{arith}
 use mathlib.Core.Path.{refl}
 use borrow.Author.Needs.{needs}

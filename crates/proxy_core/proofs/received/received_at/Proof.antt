@@ -1,3 +1,4 @@
+-- `proxy_core::received::received_at` meets its contract: while nothing is tracked the base passes the number at once, and otherwise it is as `received_any`. Assumes nothing.
 use borrow.Author.Needs.{needs}
 use Rattle.proxy_core.proofs.StepLaws.{received-first}
 use Rattle.proxy_core.proofs.received.received_at.Statement.{statement}
