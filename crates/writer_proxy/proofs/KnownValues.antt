@@ -12,11 +12,11 @@ use Rattle.proxy_core.proofs.RangeLaws.{gone, rangeIn, each-is}
 use Rattle.writer_proxy.specs.Statements.{Tracked}
 
 -- the k numbers from n on, and those received in rising order
-abbrev upFrom : ℕ → ℕ → List ℕ
+abbrev pub upFrom : ℕ → ℕ → List ℕ
 upFrom n zero = []
 upFrom n (suc k) = n ∷ upFrom (suc n) k
 
-abbrev receivedEach : ℕ → ℕ → State → State
+abbrev pub receivedEach : ℕ → ℕ → State → State
 receivedEach n zero s = s
 receivedEach n (suc k) s = receivedEach (suc n) k (received (pos n) 0 s .state)
 
