@@ -13,6 +13,7 @@ mod rtps;
 mod structure;
 
 mod caught;
+pub mod original;
 mod port;
 pub mod replay;
 
