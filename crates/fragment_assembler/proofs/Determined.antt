@@ -70,7 +70,7 @@ listing-back (listing.Refused n) = refl
 listing-back (listing.Listed n) = refl
 
 -- words by the rules that stand for one state are equal
-same-words : (w w′ : List ℕ) → Good w → Good w′ → stateOf w ≡ stateOf w′ → w ≡ w′
+pub same-words : (w w′ : List ℕ) → Good w → Good w′ → stateOf w ≡ stateOf w′ → w ≡ w′
 same-words w w′ g g′ e = g .made ∙ ap recordOf e ∙ sym (g′ .made)
 
 -- ---- the calls

@@ -19,6 +19,7 @@ use Rattle.fragment_assembler.specs.Clean as cleans
 use Rattle.fragment_assembler.specs.Missing.{Missed, missingFor}
 use Rattle.fragment_assembler.specs.Missing as misses
 use Rattle.fragment_assembler.specs.Promise.{SetsUp, Does, Cleans, Misses}
+use Rattle.fragment_assembler.proofs.Determined.{same-words}
 use Rattle.receiver.specs.AssemblerExports.{startedNumber, toldNumber, fateNumber, toldCount, Happened, fateShown, SetsUpOut, DoesOut, CleansOut, MissesOut}
 
 pub sets-up-out : {w w′ : List ℕ} {f p : ℕ} {reliable : Bool} {a : Start} (s : Started) → startedOf a ≡ s → SetsUp w f reliable p a w′
@@ -58,3 +59,23 @@ misses-out {w} {out} before t q i d =
     let same = d .same ∙ ap (λ (m : ℕ). missingFor (stateOf w) m out) i in
     let e = sym q ∙ ap (λ (x : Missed). x .answer) same in
     record { answer = ap toldNumber e; value = ap (λ (x : Told). toldCount x before) e; entries = ap (λ (x : Missed). x .list) same }
+
+-- ---- two answers that a promise allows are equal, with the words, which their rules and their state determine
+
+pub sets-up-determined : {w w′ w₂ : List ℕ} {f p r r₂ : ℕ} {reliable : Bool} → SetsUpOut w f reliable p r w′ → SetsUpOut w f reliable p r₂ w₂
+    → (r ≡ r₂) × (w′ ≡ w₂)
+sets-up-determined a b = (a .answer ∙ sym (b .answer), a .words ∙ sym (b .words))
+
+pub does-determined : {w area w′ w₂ area′ area₂ : List ℕ} {c : Call} {before after after₂ : Happened} {r r₂ : ℕ} → DoesOut w area c before r after w′ area′
+    → DoesOut w area c before r₂ after₂ w₂ area₂ → (r ≡ r₂) × (after ≡ after₂) × (w′ ≡ w₂) × (area′ ≡ area₂)
+does-determined a b =
+    (a .answer ∙ sym (b .answer), a .value ∙ sym (b .value), same-words _ _ (a .good) (b .good) (a .state ∙ sym (b .state)), a .bytes ∙ sym (b .bytes))
+
+pub cleans-determined : {w w′ w₂ : List ℕ} {cutoff before r r₂ after after₂ : ℕ} {out list list₂ : List ℤ} → CleansOut w cutoff out before r after w′ list
+    → CleansOut w cutoff out before r₂ after₂ w₂ list₂ → (r ≡ r₂) × (after ≡ after₂) × (w′ ≡ w₂) × (list ≡ list₂)
+cleans-determined a b =
+    (a .answer ∙ sym (b .answer), a .value ∙ sym (b .value), same-words _ _ (a .good) (b .good) (a .state ∙ sym (b .state)), a .entries ∙ sym (b .entries))
+
+pub misses-determined : {w : List ℕ} {n before r r₂ after after₂ : ℕ} {out list list₂ : List ℕ} → MissesOut w n out before r after list
+    → MissesOut w n out before r₂ after₂ list₂ → (r ≡ r₂) × (after ≡ after₂) × (list ≡ list₂)
+misses-determined a b = (a .answer ∙ sym (b .answer), a .value ∙ sym (b .value), a .entries ∙ sym (b .entries))

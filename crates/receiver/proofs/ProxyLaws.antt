@@ -34,3 +34,13 @@ missing-out before q p e d =
       value = ap (λ (z : Listing). countShown z before) f;
       entries = d .1 ∙ ap (λ (z : Outcome). z .output) e;
     }
+
+-- ---- two answers that a promise allows are equal
+
+pub replies-determined : {x : Reply} {old new r r₂ old′ old₂ new′ new₂ : ℕ} {words words₂ : List ℕ} → Replies x old new r old′ new′ words
+    → Replies x old new r₂ old₂ new₂ words₂ → (r ≡ r₂) × (old′ ≡ old₂) × (new′ ≡ new₂) × (words ≡ words₂)
+replies-determined p q = (p .answer ∙ sym (q .answer), p .from ∙ sym (q .from), p .to ∙ sym (q .to), p .after ∙ sym (q .after))
+
+pub missing-determined : {x : Outcome} {before r r₂ after after₂ : ℕ} {list list₂ : List ℤ} → ListsMissing x before r after list
+    → ListsMissing x before r₂ after₂ list₂ → (r ≡ r₂) × (after ≡ after₂) × (list ≡ list₂)
+missing-determined p q = (p .answer ∙ sym (q .answer), p .value ∙ sym (q .value), p .entries ∙ sym (q .entries))
