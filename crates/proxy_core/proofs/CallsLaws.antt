@@ -21,7 +21,8 @@ use Rattle.proxy_record.specs.State.{State, Ok, begun, changed}
 use Rattle.proxy_record.proofs.EntriesLaws.{below-none, from-all, from-drop, rising-from, rising-put, length-put, from-put, run-bound, from-run}
 use Rattle.proxy_core.specs.declared.Report.the-variants.{Done, Refused}
 use Rattle.proxy_core.specs.Calls.{noted, put, rebased, moveOn, discard, settled, cap, lowestGone, trim, capped, ended, got, lost, receivedAt, received, irrelevantAt, irrelevant, without, skipped, putEach, rangeAt, irrelevantRange}
-use Rattle.proxy_core.proofs.NatLaws.{nat-top, nat-order}
+use Rattle.proxy_core.proofs.NatLaws.{nat-top}
+use Rattle.sequence_number.proofs.KindLaws.{rank-above}
 
 -- The rules
 
@@ -265,7 +266,7 @@ unfolding irrelevantRange
 ok-range a b s f o =
     split (ltZ b a)
     (λ e. rw e o)
-    (λ e. rw e (ok-range-at (natOf a) (natOf b) s o (nat-order a b e) (nat-top b f)))
+    (λ e. rw e (ok-range-at (natOf a) (natOf b) s o (rank-above a b e) (nat-top b f)))
 
 -- No step lowers the base
 

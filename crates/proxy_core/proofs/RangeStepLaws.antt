@@ -24,7 +24,8 @@ use Rattle.proxy_record.proofs.RowLaws.{number-word, place-row}
 use Rattle.proxy_core.specs.declared.Report.{Report}
 use Rattle.proxy_core.specs.declared.Report.the-variants.{Done, Forced, Refused}
 use Rattle.proxy_core.specs.Calls.{put, rebased, moveOn, discard, cap, ended, lost, skipped, putEach, rangeAt, irrelevantRange, Answered}
-use Rattle.proxy_core.proofs.NatLaws.{nat-top, nat-order}
+use Rattle.proxy_core.proofs.NatLaws.{nat-top}
+use Rattle.sequence_number.proofs.KindLaws.{rank-above}
 use Rattle.proxy_core.proofs.CallsLaws.{ok-put, ended-few, skipped-none, skipped-some, ok-cut, skipped-same, range-at-low, range-at-above, ok-range}
 use Rattle.proxy_core.proofs.RangeLaws.{gone, rangeIn, rising-range, length-range, each-is, each-more, ended-many, get-low, drop-high, get-high, range-drop, rising-drop, range-from}
 use Rattle.proxy_core.proofs.StepLaws.{answered, good-of, base-word, good-more}
@@ -243,7 +244,7 @@ module _ (a b : ℤ) (fb : SFits w64 b) (w : List ℕ) (g : Good w) where
 
   module _ (e : ltZ b a ≡ false) (x y : ℕ) (p : x ≡ natOf a) (q : y ≡ natOf b) where
     pub range-order : (x ≤ y) × (y ≤ top)
-    range-order = (omega (arith, nat-order a b e), omega (arith, nat-top b fb))
+    range-order = (omega (arith, rank-above a b e), omega (arith, nat-top b fb))
 
     range-is : irrelevantRange a b (stateOf w) ≡ rangeAt x y (stateOf w)
     unfolding irrelevantRange

@@ -1,12 +1,12 @@
 // Numbers that are not available: one, a range, all up to one.
 ghost use Rattle.proxy_record.specs.Record.{Good, stateOf};
 ghost use Rattle.proxy_core.specs.Calls.{irrelevant, irrelevantRange, upTo, Answered};
-use crate::number::nat_of;
 use proxy_core::Report;
 use proxy_core::base;
 use proxy_core::range;
 use proxy_record::BASE;
 use proxy_record::NOT_AVAILABLE;
+use sequence_number::number::natural;
 use sequence_number::number::number_of;
 
 // A number is not available. Refused with 4: a number below 1, or 2^63 - 1. The Rust lacks the cap here.
@@ -34,8 +34,8 @@ pub fn irrelevant_changes_range(t: &mut [u64], from: i64, until: i64) -> Report
     if until < from {
         return Report::Refused(5);
     }
-    let a = nat_of(from);
-    let b = nat_of(until);
+    let a = natural(from);
+    let b = natural(until);
     if a <= t[BASE] {
         range::skip_to(t, b);
         return Report::Done;

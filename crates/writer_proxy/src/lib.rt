@@ -3,7 +3,6 @@
 pub mod counter;
 pub mod irrelevant;
 pub mod missing;
-pub mod number;
 pub mod query;
 pub mod received;
 pub mod set_up;

@@ -8,12 +8,12 @@ ghost use Rattle.sequence_number.specs.Number.{top};
 ghost use Rattle.sequence_number.specs.Lent.{over};
 ghost use Rattle.proxy_record.specs.Record.{Good, stateOf, tracked};
 ghost use Rattle.writer_proxy.specs.Missing.{missing, listed};
-use crate::number::nat_of;
 use proxy_record::BASE;
 use proxy_record::COUNT;
 use proxy_record::KINDS;
 use proxy_record::NUMBERS;
 use proxy_record::column;
+use sequence_number::number::natural;
 
 // How many numbers are missing and listed, or document 01's refusal number.
 pub enum Listing {
@@ -69,11 +69,11 @@ pub fn missing_seqnums(t: &[u64], start: i64, end: i64, out: &mut [i64]) -> List
     requires { ⌜ Good (now t) ⌝ }
     ensures { λ r. ⌜ (r ≡ listed start end (stateOf (now (t .entry))) (now (out .entry)) .answer) × (now (out .exit) ≡ listed start end (stateOf (now (t .entry))) (now (out .entry)) .output) ⌝ }
 {
-    let last = nat_of(end);
+    let last = natural(end);
     if last == 9223372036854775807 {
         return Listing::Refused(4);
     }
-    let lo = larger(t[BASE], nat_of(start));
+    let lo = larger(t[BASE], natural(start));
     let hi = larger(lo, last + 1);
     let count = count_missing(t, lo, hi);
     if (out.len() as u64) < count {

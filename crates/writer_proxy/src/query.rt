@@ -2,7 +2,6 @@
 ghost use mathlib.Core.Path.{_≡_};
 ghost use Rattle.proxy_record.specs.Record.{Good, stateOf, tracked};
 ghost use Rattle.writer_proxy.specs.Queries.{look, shown, statusOf, ignored, lastOf};
-use crate::number::nat_of;
 use proxy_record::BASE;
 use proxy_record::COUNT;
 use proxy_record::KINDS;
@@ -13,6 +12,7 @@ use proxy_record::TIME;
 use proxy_record::TIMES;
 use proxy_record::WORDS;
 use proxy_record::column;
+use sequence_number::number::natural;
 
 // What is known of a number: nothing, that it is not available, or that it was received at a time.
 pub enum Status {
@@ -73,7 +73,7 @@ pub fn change_status(t: &[u64], number: i64) -> Status
     requires { ⌜ Good (now t) ⌝ }
     ensures { λ r. ⌜ r ≡ statusOf number (stateOf (now (t .entry))) ⌝ }
 {
-    status_of(t, nat_of(number))
+    status_of(t, natural(number))
 }
 
 // Whether a number is below the base or tracked.
@@ -81,7 +81,7 @@ pub fn should_ignore_change(t: &[u64], number: i64) -> bool
     requires { ⌜ Good (now t) ⌝ }
     ensures { λ r. ⌜ r ≡ ignored number (stateOf (now (t .entry))) ⌝ }
 {
-    let n = nat_of(number);
+    let n = natural(number);
     if n < t[BASE] {
         return true;
     }

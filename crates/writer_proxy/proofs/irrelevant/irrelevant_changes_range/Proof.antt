@@ -11,14 +11,14 @@ use Rattle.writer_proxy.proofs.irrelevant.irrelevant_changes_range.Stat
 use Rattle.writer_proxy.proofs.irrelevant.irrelevant_changes_range.Tie as tie
 
 -- the two ends as the core takes them
-ends : (c : tie.After-nat-of2)
+ends : (c : tie.After-natural2)
     → let s = c .before .before .before .before in
-    (ltZ (s .args .until) (s .args .from) ≡ false) × (c .before .nat-of .result ≡ natOf (s .args .from)) × (c .nat-of2 .result ≡ natOf (s .args .until))
+    (ltZ (s .args .until) (s .args .from) ≡ false) × (c .before .natural .result ≡ natOf (s .args .from)) × (c .natural2 .result ≡ natOf (s .args .until))
 ends c =
     let s = c .before .before .before .before in (
       order-passed (s .args .from) (s .args .until) false (s .fits .from) (s .fits .until) (c .before .before .if1 .left),
-      nat-passed (s .args .from) _ (s .fits .from) (c .before .nat-of .ensures),
-      nat-passed (s .args .until) _ (s .fits .until) (c .nat-of2 .ensures),
+      nat-passed (s .args .from) _ (s .fits .from) (c .before .natural .ensures),
+      nat-passed (s .args .until) _ (s .fits .until) (c .natural2 .ensures),
     )
 
 returns : tie.Need-returns
@@ -27,11 +27,11 @@ returns c =
     let a = s .args in
     (range-refused (a .from) (a .until) (s .fits .until) (a .t .now) (s .pre) (order-passed (a .from) (a .until) true (s .fits .from) (s .fits .until) (c .if1 .taken)), s .pre)
 
-nat-of-requires : tie.Need-nat-of-requires
-nat-of-requires c κs = search needs
+natural-requires : tie.Need-natural-requires
+natural-requires c κs = search needs
 
-nat-of-requires-2 : tie.Need-nat-of-requires-2
-nat-of-requires-2 c κs = search needs
+natural-requires-2 : tie.Need-natural-requires-2
+natural-requires-2 c κs = search needs
 
 slice-read-if2 : tie.Need-slice-read-if2
 slice-read-if2 c = search needs
@@ -76,8 +76,8 @@ irrelevant-changes-range-spec =
     tie.close
     (tie.spec
     returns
-    nat-of-requires
-    nat-of-requires-2
+    natural-requires
+    natural-requires-2
     slice-read-if2
     skip-to-requires
     same-length

@@ -21,33 +21,33 @@ ends : (c : tie.After-larger2)
 ends c =
     let s = c .before .before .before .before .before .before .before in
     let a = s .args in
-    let o = ends-order (a .start) (a .end) (s .fits .start) (s .fits .end) (a .t .now) (s .pre) _ _ _ _ (c .before .before .before .before .before .nat-of .ensures) (c .before .before .nat-of2 .ensures) (c .before .before .before .before .if1 .left) (c .before .larger .ensures) (c .larger2 .ensures) in (
-      end-open (a .start) (a .end) (s .fits .start) (s .fits .end) (a .t .now) (s .pre) _ _ _ _ (c .before .before .before .before .before .nat-of .ensures) (c .before .before .nat-of2 .ensures) (c .before .before .before .before .if1 .left) (c .before .larger .ensures) (c .larger2 .ensures),
+    let o = ends-order (a .start) (a .end) (s .fits .start) (s .fits .end) (a .t .now) (s .pre) _ _ _ _ (c .before .before .before .before .before .natural .ensures) (c .before .before .natural2 .ensures) (c .before .before .before .before .if1 .left) (c .before .larger .ensures) (c .larger2 .ensures) in (
+      end-open (a .start) (a .end) (s .fits .start) (s .fits .end) (a .t .now) (s .pre) _ _ _ _ (c .before .before .before .before .before .natural .ensures) (c .before .before .natural2 .ensures) (c .before .before .before .before .if1 .left) (c .before .larger .ensures) (c .larger2 .ensures),
       o .0,
       o .1,
-      ends-list (a .start) (a .end) (s .fits .start) (s .fits .end) (a .t .now) (s .pre) _ _ _ _ (c .before .before .before .before .before .nat-of .ensures) (c .before .before .nat-of2 .ensures) (c .before .before .before .before .if1 .left) (c .before .larger .ensures) (c .larger2 .ensures),
+      ends-list (a .start) (a .end) (s .fits .start) (s .fits .end) (a .t .now) (s .pre) _ _ _ _ (c .before .before .before .before .before .natural .ensures) (c .before .before .natural2 .ensures) (c .before .before .before .before .if1 .left) (c .before .larger .ensures) (c .larger2 .ensures),
     )
 
-nat-of-requires : tie.Need-nat-of-requires
-nat-of-requires c κs = search needs
+natural-requires : tie.Need-natural-requires
+natural-requires c κs = search needs
 
 returns : tie.Need-returns
 returns c =
     let s = c .before .before .before in
     let a = s .args in
-    listed-last (a .start) (a .end) (stateOf (a .t .now)) (a .out .now) (sym (nat-passed (a .end) _ (s .fits .end) (c .before .nat-of .ensures)) ∙ c .if1 .taken)
+    listed-last (a .start) (a .end) (stateOf (a .t .now)) (a .out .now) (sym (nat-passed (a .end) _ (s .fits .end) (c .before .natural .ensures)) ∙ c .if1 .taken)
 
 shared-slice-read-larger : tie.Need-shared-slice-read-larger
 shared-slice-read-larger c = search needs
 
-nat-of-requires-2 : tie.Need-nat-of-requires-2
-nat-of-requires-2 c κs = search needs
+natural-requires-2 : tie.Need-natural-requires-2
+natural-requires-2 c κs = search needs
 
 larger-requires : tie.Need-larger-requires
 larger-requires c κs = search needs
 
 add-larger : tie.Need-add-larger
-add-larger c = omega (arith, nat-passed (c .before .before .before .before .before .before .args .end) _ (c .before .before .before .before .before .before .fits .end) (c .before .before .before .before .nat-of .ensures), nat-top (c .before .before .before .before .before .before .args .end) (c .before .before .before .before .before .before .fits .end))
+add-larger c = omega (arith, nat-passed (c .before .before .before .before .before .before .args .end) _ (c .before .before .before .before .before .before .fits .end) (c .before .before .before .before .natural .ensures), nat-top (c .before .before .before .before .before .before .args .end) (c .before .before .before .before .before .before .fits .end))
 
 larger-requires-2 : tie.Need-larger-requires-2
 larger-requires-2 c κs = search needs
@@ -79,10 +79,10 @@ pub missing-seqnums-spec : {M : Type 1} → statement M
 missing-seqnums-spec =
     tie.close
     (tie.spec
-    nat-of-requires
+    natural-requires
     returns
     shared-slice-read-larger
-    nat-of-requires-2
+    natural-requires-2
     larger-requires
     add-larger
     larger-requires-2

@@ -10,8 +10,8 @@ use Rattle.writer_proxy.proofs.QueryLaws.{status-nat}
 use Rattle.writer_proxy.proofs.query.change_status.Statement.{statement}
 use Rattle.writer_proxy.proofs.query.change_status.Tie as tie
 
-nat-of-requires : tie.Need-nat-of-requires
-nat-of-requires c κs = search needs
+natural-requires : tie.Need-natural-requires
+natural-requires c κs = search needs
 
 status-of-requires : tie.Need-status-of-requires
 status-of-requires c κs = search needs
@@ -19,8 +19,8 @@ status-of-requires c κs = search needs
 returns : tie.Need-returns
 returns c =
     let s = c .before .before .before in
-    let k = nat-passed (s .args .number) _ (s .fits .number) (c .before .nat-of .ensures) in
+    let k = nat-passed (s .args .number) _ (s .fits .number) (c .before .natural .ensures) in
     c .status-of .ensures ∙ ap (λ (n : ℕ). shown (look n (tracked (s .args .t .now)))) k ∙ status-nat cap (s .args .number) (stateOf (s .args .t .now)) (s .pre .ok)
 
 pub change-status-spec : {M : Type 1} → statement M
-change-status-spec = tie.close (tie.spec nat-of-requires status-of-requires returns)
+change-status-spec = tie.close (tie.spec natural-requires status-of-requires returns)

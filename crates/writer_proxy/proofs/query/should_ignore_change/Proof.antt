@@ -18,11 +18,11 @@ past : (c : tie.After-status-of) (b : Bool) → isShown (c .status-of .result) �
     b ≡ ignored (s .args .number) (stateOf (s .args .t .now))
 past c b e =
     let s = c .before .before .before .before .before in
-    let k = nat-passed (s .args .number) _ (s .fits .number) (c .before .before .before .nat-of .ensures) in
+    let k = nat-passed (s .args .number) _ (s .fits .number) (c .before .before .before .natural .ensures) in
     ignored-by cap (s .args .number) _ (stateOf (s .args .t .now)) _ b (s .pre .ok) k (omega (arith, c .before .if1 .left, base-word cap _ (omega arith) (s .pre))) (c .status-of .ensures) e
 
-nat-of-requires : tie.Need-nat-of-requires
-nat-of-requires c κs = search needs
+natural-requires : tie.Need-natural-requires
+natural-requires c κs = search needs
 
 shared-slice-read-if1 : tie.Need-shared-slice-read-if1
 shared-slice-read-if1 c = search needs
@@ -30,7 +30,7 @@ shared-slice-read-if1 c = search needs
 returns : tie.Need-returns
 returns c =
     let s = c .before .before .before .before in
-    let k = nat-passed (s .args .number) _ (s .fits .number) (c .before .before .nat-of .ensures) in
+    let k = nat-passed (s .args .number) _ (s .fits .number) (c .before .before .natural .ensures) in
     ignored-low (s .args .number) (stateOf (s .args .t .now)) (omega (arith, k, c .if1 .taken, base-word cap _ (omega arith) (s .pre)))
 
 status-of-requires : tie.Need-status-of-requires
@@ -58,7 +58,7 @@ pub should-ignore-change-spec : {M : Type 1} → statement M
 should-ignore-change-spec =
     tie.close
     (tie.spec
-    nat-of-requires
+    natural-requires
     shared-slice-read-if1
     returns
     status-of-requires
