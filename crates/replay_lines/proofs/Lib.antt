@@ -1,0 +1,3 @@
+pub mod HexLaws
+pub mod FrameLaws
+pub mod DecimalLaws

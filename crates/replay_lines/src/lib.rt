@@ -1,0 +1,3 @@
+mod decimal;
+pub mod frame;
+mod hex;
