@@ -9,15 +9,15 @@ use lib.ListN.{length, take, getD, set, length-append}
 use lib.IntN.{ℤ, pos}
 use lib.Signed.{mag}
 use mir.Syntax.{w64}
-use mir.Val.{SFits, ofZ, toZ}
+use mir.Val.{Fits, SFits, ofZ, toZ}
 use lib.Seq.{sets, take-suc}
 use lib.Dec.{ltb}
 use borrow.Author.Tests.{lt-ltb, le-ltb, ltb-true, ltb-false}
-use Rattle.sequence_number.specs.Number.{natOf}
+use Rattle.sequence_number.specs.Number.{top, natOf}
 use Rattle.sequence_number.proofs.Split.{split}
 use Rattle.sequence_number.proofs.RunLaws.{sets-sets}
 use Rattle.proxy_core.proofs.NatLaws.{nat-top, nat-passed}
-use Rattle.replay_lines.specs.Decimal.{digitsWithin, digits, next, spaced}
+use Rattle.replay_lines.specs.Decimal.{digitsWithin, digits, next, spaced, started}
 
 -- once there are enough, more steps change nothing
 within-same : (f g n : ℕ) → n ≤ f → n ≤ g → digitsWithin f n ≡ digitsWithin g n
@@ -73,10 +73,17 @@ put-spaced out out′ at end n p e = (rw add-one at p, omega arith)
 
 -- Lists of numbers
 
-spaced-end : (l : List ℕ) (n : ℕ) → spaced (l ++ (n ∷ [])) ≡ spaced l ++ next n
+pub spaced-append : (l ms : List ℕ) → spaced (l ++ ms) ≡ spaced l ++ spaced ms
 unfolding spaced
-spaced-end [] n = append-nil (next n)
-spaced-end (x ∷ l) n = ap (λ (t : List ℕ). next x ++ t) (spaced-end l n) ∙ sym (append-assoc (next x) (spaced l) (next n))
+spaced-append [] ms = refl
+spaced-append (x ∷ l) ms = ap (λ (t : List ℕ). next x ++ t) (spaced-append l ms) ∙ sym (append-assoc (next x) (spaced l) (spaced ms))
+
+pub spaced-one : (n : ℕ) → spaced (n ∷ []) ≡ next n
+unfolding spaced
+spaced-one n = append-nil (next n)
+
+spaced-end : (l : List ℕ) (n : ℕ) → spaced (l ++ (n ∷ [])) ≡ spaced l ++ next n
+spaced-end l n = spaced-append l (n ∷ []) ∙ ap (λ (t : List ℕ). spaced l ++ t) (spaced-one n)
 
 -- a number that an i64 holds takes nineteen digits at most
 pub next-most : (z : ℤ) (n : ℕ) → mag z < 2 ^ 63 → n ≡ natOf (toZ w64 (ofZ w64 z)) → length (next n) ≤ 20
@@ -102,3 +109,50 @@ list-more out mid out′ at end end′ list i n f h e p q p′ q′ =
       sets-sets out mid out′ (spaced old) (next n) at end q p p′ ∙ ap (sets out at) (sym w),
       omega (arith, ap length w, length-append (spaced old) (next n)),
     )
+
+-- A line, from the front
+
+-- what stands once a part of a line is written
+abbrev pub Begun : List ℕ → List ℕ → ℕ → ℕ → List ℕ → Type 0
+Begun out out′ end k l = (out′ ≡ sets out 0 (started k l)) × (end ≡ length (started k l))
+
+started-none : (k : ℕ) → started k [] ≡ digits k
+unfolding spaced
+started-none k = append-nil (digits k)
+
+started-append : (k : ℕ) (l ms : List ℕ) → started k (l ++ ms) ≡ started k l ++ spaced ms
+started-append k l ms = ap (λ (t : List ℕ). digits k ++ t) (spaced-append l ms) ∙ sym (append-assoc (digits k) (spaced l) (spaced ms))
+
+pub begins : (out out′ : List ℕ) (end k : ℕ) → out′ ≡ sets out 0 (digits k) → end ≡ 0 + length (digits k) → Begun out out′ end k []
+begins out out′ end k p e = (p ∙ ap (sets out 0) (sym (started-none k)), omega (arith, ap length (started-none k)))
+
+pub goes-on : (out mid out′ : List ℕ) (end end′ k : ℕ) (l ms : List ℕ) → Begun out mid end k l → out′ ≡ sets mid end (spaced ms) → end′ ≡ end + length (spaced ms)
+    → Begun out out′ end′ k (l ++ ms)
+goes-on out mid out′ end end′ k l ms h p e =
+    let w = started-append k l ms in (
+      sets-sets out mid out′ (started k l) (spaced ms) 0 end (omega (arith, h .1)) (h .0) p ∙ ap (sets out 0) (sym w),
+      omega (arith, ap length w, length-append (started k l) (spaced ms), h .1),
+    )
+
+pub goes-on-one : (out mid out′ : List ℕ) (end end′ k m : ℕ) (l : List ℕ) → Begun out mid end k l → out′ ≡ sets mid end (next m) → end′ ≡ end + length (next m)
+    → Begun out out′ end′ k (l ++ (m ∷ []))
+goes-on-one out mid out′ end end′ k m l h p e =
+    goes-on out mid out′ end end′ k l (m ∷ []) h (p ∙ ap (sets mid end) (sym (spaced-one m))) (omega (arith, ap length (spaced-one m)))
+
+-- a word takes twenty digits at most
+pub word-most : (n : ℕ) → Fits w64 n → length (digits n) ≤ 20
+word-most n f = length-most 19 n (omega (arith, f .fits))
+
+pub length-head : (k r n : ℕ) → length (started k (r ∷ n ∷ [])) ≡ length (digits k) + length (next r) + length (next n)
+unfolding spaced
+length-head k r n =
+    let a = length-append (digits k) (spaced (r ∷ n ∷ [])) in
+    let d = length-append (next r) (spaced (n ∷ [])) in
+    omega (arith, a, d, ap length (spaced-one n))
+
+-- the head of a missing list's line, and its count
+pub head-most : (n : ℕ) → n ≤ top → length (started 3 (0 ∷ n ∷ [])) ≤ 23
+head-most n h = omega (arith, length-head 3 0 n, length-one 3 (omega arith), length-one 0 (omega arith), length-most 18 n (omega arith))
+
+pub count-most : (n : ℕ) → n ≤ 256 → length (next n) ≤ 4
+count-most n h = omega (arith, length-most 2 n (omega arith))

@@ -1,3 +1,4 @@
 pub mod HexLaws
 pub mod FrameLaws
 pub mod DecimalLaws
+pub mod AnswerLaws

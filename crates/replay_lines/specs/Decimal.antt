@@ -22,6 +22,10 @@ unfoldable pub spaced : List ℕ → List ℕ
 spaced [] = []
 spaced (n ∷ l) = next n ++ spaced l
 
--- a line of numbers, parted by one space and ended by a line feed
+-- numbers parted by one space, n and those of a list
+abbrev pub started : ℕ → List ℕ → List ℕ
+started n l = digits n ++ spaced l
+
+-- the same as a line, which a line feed ends
 abbrev pub lineOf : ℕ → List ℕ → List ℕ
-lineOf n l = digits n ++ (spaced l ++ (10 ∷ []))
+lineOf n l = started n l ++ (10 ∷ [])

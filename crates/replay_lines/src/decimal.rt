@@ -34,7 +34,7 @@ pub(crate) fn put_next(out: &mut [u8], at: usize, n: u64) -> usize
 // The first count numbers of a list, a space before each.
 pub(crate) fn put_list(out: &mut [u8], at: usize, list: &[i64], count: usize) -> usize
     requires { ⌜ (count ≤ length (now list)) × (at + 20 * count ≤ length (now out)) ⌝ }
-    ensures { λ r. ⌜ (now (out .exit) ≡ sets (now (out .entry)) at (spaced (map natOf (take count (now (list .entry)))))) × (r ≡ at + length (spaced (map natOf (take count (now (list .entry)))))) ⌝ }
+    ensures { λ r. ⌜ (now (out .exit) ≡ sets (now (out .entry)) at (spaced (map natOf (take count (now (list .entry)))))) × (r ≡ at + length (spaced (map natOf (take count (now (list .entry)))))) × (r ≤ at + 20 * count) ⌝ }
 {
     let mut end = at;
     let mut i = 0;

@@ -1,3 +1,4 @@
+pub mod answer;
 mod decimal;
 pub mod frame;
 mod hex;

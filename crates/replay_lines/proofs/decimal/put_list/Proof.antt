@@ -70,7 +70,7 @@ same-length c = c .before .loop .inv .1
 returns : tie.Need-returns Inv-loop μ-loop
 returns c =
     let e : c .before .loop .i ≡ c .before .before .before .args .count = omega arith in
-    (rw e at (c .before .loop .inv .2), rw e at (c .before .loop .inv .3))
+    (rw e at (c .before .loop .inv .2), rw e at (c .before .loop .inv .3), rw e at (c .before .loop .inv .4))
 
 pub put-list-spec : {M : Type 1} → statement M
 put-list-spec =
