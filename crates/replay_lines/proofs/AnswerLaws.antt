@@ -153,11 +153,10 @@ module _ (words line : List ℕ) (list : List ℤ) (out : List ℕ) where
   unfolding answered
   no-room g h = rw (le-ltb (length list) room g, lt-ltb (length out) enough h) (record { written = refl; words-are = refl; list-is = refl; out-is = refl })
 
-  pub given-line : (n : ℕ) (p : Parsed) (words′ : List ℕ) (list′ : List ℤ) (out′ : List ℕ) → room ≤ length list → enough ≤ length out → p ≡ parsed line
-      → Did n words′ list′ out out′ (stepOf p (stateOf words) list) → Lines.Answered (Written.Wrote n) words′ list′ out′ (answered words line list out)
+  pub given-line : (n : ℕ) (words′ : List ℕ) (list′ : List ℤ) (out′ : List ℕ) → room ≤ length list → enough ≤ length out
+      → Did n words′ list′ out out′ (stepOf (parsed line) (stateOf words) list) → Lines.Answered (Written.Wrote n) words′ list′ out′ (answered words line list out)
   unfolding answered
-  given-line n p words′ list′ out′ g h e d =
-      let x : Did n words′ list′ out out′ (stepOf (parsed line) (stateOf words) list) = rw e at d in
+  given-line n words′ list′ out′ g h x =
       rw (le-ltb (length list) room g, le-ltb (length out) enough h)
       (record { written = ap Written.Wrote (x .wrote .count); words-are = x .words-are; list-is = x .list-is; out-is = x .wrote .line })
 

@@ -2,3 +2,4 @@ pub mod HexLaws
 pub mod FrameLaws
 pub mod DecimalLaws
 pub mod AnswerLaws
+pub mod FeedLaws

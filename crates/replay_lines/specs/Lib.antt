@@ -2,3 +2,4 @@ pub mod Hex
 pub mod Frame
 pub mod Decimal
 pub mod Answer
+pub mod Feed

@@ -8,6 +8,7 @@ ghost use Rattle.sequence_number.specs.Number.{top, natOf};
 ghost use Rattle.proxy_record.specs.Record.{Good, stateOf};
 ghost use Rattle.writer_proxy.specs.Answers.{refusalOf};
 ghost use Rattle.replay_lines.specs.Decimal.{started};
+ghost use Rattle.replay_lines.specs.Frame.{parsed};
 ghost use Rattle.replay_lines.specs.Answer.{room, enough, toldMissing, stepOf, Wrote, Did, answered, Answered};
 use crate::decimal::put_list;
 use crate::decimal::put_next;
@@ -115,6 +116,19 @@ fn answer_frame(words: &mut [u64], frame: Frame, list: &mut [i64], out: &mut [u8
     }
 }
 
+// A line, without its line feed, read, done and told.
+pub(crate) fn answer(words: &mut [u64], line: &[u8], list: &mut [i64], out: &mut [u8]) -> usize
+    requires { ⌜ Good (now words) × (room ≤ length (now list)) × (enough ≤ length (now out)) ⌝ }
+    ensures { λ n. ⌜ Did n (now (words .exit)) (now (list .exit)) (now (out .entry)) (now (out .exit)) (stepOf (parsed (now (line .entry))) (stateOf (now (words .entry))) (now (list .entry))) ⌝ }
+    ensures { λ n. ⌜ Good (now (words .exit)) ⌝ }
+{
+    let Parsed::Reads(frame) = parse(line) else {
+        let base = all_ackable_before(words);
+        return put_short(out, 0, 1, base);
+    };
+    answer_frame(words, frame, list, out)
+}
+
 // The answer to a line, without its line feed: how many bytes were written. Refused with 3: a list shorter than ROOM, a buffer shorter than ANSWER.
 pub fn answer_line(words: &mut [u64], line: &[u8], list: &mut [i64], out: &mut [u8]) -> Written
     requires { ⌜ Good (now words) ⌝ }
@@ -127,9 +141,5 @@ pub fn answer_line(words: &mut [u64], line: &[u8], list: &mut [i64], out: &mut [
     if out.len() < ANSWER {
         return Written::Refused(3);
     }
-    let Parsed::Reads(frame) = parse(line) else {
-        let base = all_ackable_before(words);
-        return Written::Wrote(put_short(out, 0, 1, base));
-    };
-    Written::Wrote(answer_frame(words, frame, list, out))
+    Written::Wrote(answer(words, line, list, out))
 }
