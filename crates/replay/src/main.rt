@@ -20,7 +20,14 @@ enum Turn {
 }
 
 // A piece of input, answered: how many bytes are held of the line that it ends in.
-fn replay_piece(words: &mut [u64], list: &mut [i64], held: &mut [u8], count: usize, piece: &[u8], out: &mut [u8]) -> usize
+fn replay_piece(
+    words: &mut [u64],
+    list: &mut [i64],
+    held: &mut [u8],
+    count: usize,
+    piece: &[u8],
+    out: &mut [u8],
+) -> usize
     requires { ⌜ Good (now words) ⌝ }
     ensures { λ r. ⌜ Good (now (words .exit)) ⌝ }
 {
@@ -44,7 +51,14 @@ fn replay_piece(words: &mut [u64], list: &mut [i64], held: &mut [u8], count: usi
 }
 
 // What a read gives, answered.
-fn replay_some(words: &mut [u64], list: &mut [i64], held: &mut [u8], count: usize, input: &mut [u8], out: &mut [u8]) -> Turn
+fn replay_some(
+    words: &mut [u64],
+    list: &mut [i64],
+    held: &mut [u8],
+    count: usize,
+    input: &mut [u8],
+    out: &mut [u8],
+) -> Turn
     requires { ⌜ Good (now words) ⌝ }
     ensures { λ r. ⌜ Good (now (words .exit)) ⌝ }
 {
@@ -56,21 +70,36 @@ fn replay_some(words: &mut [u64], list: &mut [i64], held: &mut [u8], count: usiz
     Turn::Held(replay_piece(words, list, held, count, &input[..end], out))
 }
 
-// All input. A proved loop has to end, and nothing says that the input does: no run uses its turns up.
-fn replay_all(words: &mut [u64], list: &mut [i64], held: &mut [u8], input: &mut [u8], out: &mut [u8])
-    requires { ⌜ length (now words) ≡ size ⌝ }
+// All input: how many bytes are held of a last line. A proved loop has to end, and nothing says that the input does: no run uses its turns up.
+fn replay_input(
+    words: &mut [u64],
+    list: &mut [i64],
+    held: &mut [u8],
+    input: &mut [u8],
+    out: &mut [u8],
+) -> usize
+    requires { ⌜ Good (now words) ⌝ }
+    ensures { λ r. ⌜ Good (now (words .exit)) ⌝ }
 {
-    set_up(words);
     let mut n = 0;
     let mut turns = u64::MAX;
     while turns > 0 {
         let turn = replay_some(words, list, held, n, input, out);
         let Turn::Held(count) = turn else {
-            break;
+            return n;
         };
         n = count;
         turns -= 1;
     }
+    n
+}
+
+// A fresh proxy, all input, and a last line that lacks its line feed.
+fn replay(words: &mut [u64], list: &mut [i64], held: &mut [u8], input: &mut [u8], out: &mut [u8])
+    requires { ⌜ length (now words) ≡ size ⌝ }
+{
+    set_up(words);
+    let n = replay_input(words, list, held, input, out);
     if 0 < n {
         replay_piece(words, list, held, n, b"\n", out);
     }
@@ -82,5 +111,5 @@ fn main() {
     let mut held = [0u8; HELD];
     let mut input = io::large_buffer();
     let mut out = io::large_buffer();
-    replay_all(&mut words, &mut list, &mut held, &mut input, &mut out);
+    replay(&mut words, &mut list, &mut held, &mut input, &mut out);
 }
