@@ -105,25 +105,27 @@ rest-kept out₀ out part t wrote w f d p e =
 -- the loop after a byte
 module _ (piece out₀ : List ℕ) (i : ℕ) (words words′ : List ℕ) (list list′ : List ℤ) (held held′ : List ℕ) (n wrote : ℕ) (out part : List ℕ) (r : Held)
     (f : wrote ≤ length out) (g : length out ≡ length out₀) (k : length part ≡ length (take (length out - wrote) (drop wrote out)))
-    (s : Stepped r words′ list′ held′ (take (length out - wrote) (drop wrote out)) part (getD piece i 0) (runOf words list held n)) where
+    (s : Stepped r words′ list′ held′ (take (length out - wrote) (drop wrote out)) part (getD piece i 0) (runOf words list held n))
+    (d : drop wrote out ≡ drop wrote out₀) (h : i < length piece) (e : enough ≤ length out - wrote) where
   stepped : Stepped r words′ list′ held′ (drop wrote out) part (getD piece i 0) (runOf words list held n)
   stepped = rw (part-whole out wrote) at s
 
   kept-length : length part ≡ length (drop wrote out)
   kept-length = k ∙ ap length (part-whole out wrote)
 
-  pub wrote-fits : wrote + r .wrote ≤ length out
-  wrote-fits = omega (arith, length-drop wrote out, says-fit (says (getD piece i 0) (runOf words list held n)) (drop wrote out) part (stepped .out-is) kept-length, stepped .wrote-is)
-
-  pub out-length : length (take wrote out ++ (part ++ drop (length out - wrote) (drop wrote out))) ≡ length out₀
-  out-length = rw (part-back out part wrote) (omega (arith, length-append (take wrote out) part, length-take-le wrote out f, length-drop wrote out, kept-length))
-
-  pub out-rest : drop wrote out ≡ drop wrote out₀ → drop (wrote + r .wrote) (take wrote out ++ (part ++ drop (length out - wrote) (drop wrote out))) ≡ drop (wrote + r .wrote) out₀
-  out-rest d = rw (part-back out part wrote) (rest-kept out₀ out part (says (getD piece i 0) (runOf words list held n)) wrote (r .wrote) f d (stepped .out-is) (stepped .wrote-is))
-
-  pub byte-taken : i < length piece → enough ≤ length out - wrote
-      → goOn (length out₀) (drop i piece) (reached i words list held n wrote out) ≡ goOn (length out₀) (drop (i + 1) piece) (reached (i + 1) words′ list′ held′ (r .count) (wrote + r .wrote) (take wrote out ++ (part ++ drop (length out - wrote) (drop wrote out))))
-  byte-taken h e = rw (part-back out part wrote) (walk-goes-on (length out₀) piece i words words′ list list′ held held′ n wrote out part r h (omega (arith, g)) f stepped)
+  pub byte-taken : (wrote + r .wrote ≤ length out)
+      × (length (take wrote out ++ (part ++ drop (length out - wrote) (drop wrote out))) ≡ length out₀)
+      × (drop (wrote + r .wrote) (take wrote out ++ (part ++ drop (length out - wrote) (drop wrote out))) ≡ drop (wrote + r .wrote) out₀)
+      × (goOn (length out₀) (drop i piece) (reached i words list held n wrote out)
+      ≡ goOn (length out₀) (drop (i + 1) piece) (reached (i + 1) words′ list′ held′ (r .count) (wrote + r .wrote) (take wrote out ++ (part ++ drop (length out - wrote) (drop wrote out)))))
+  byte-taken =
+      let t = says (getD piece i 0) (runOf words list held n) in
+      rw (part-back out part wrote) (
+        omega (arith, length-drop wrote out, says-fit t (drop wrote out) part (stepped .out-is) kept-length, stepped .wrote-is),
+        omega (arith, length-append (take wrote out) part, length-take-le wrote out f, length-drop wrote out, kept-length),
+        rest-kept out₀ out part t wrote (r .wrote) f d (stepped .out-is) (stepped .wrote-is),
+        walk-goes-on (length out₀) piece i words words′ list list′ held held′ n wrote out part r h (omega (arith, g)) f stepped,
+      )
 
 -- what was written, over what was there
 out-over : (out₀ out : List ℕ) (wrote : ℕ) → wrote ≤ length out → drop wrote out ≡ drop wrote out₀ → out ≡ over (take wrote out) out₀

@@ -3,3 +3,5 @@ pub mod FrameLaws
 pub mod DecimalLaws
 pub mod AnswerLaws
 pub mod FeedLaws
+pub mod KnownValues
+pub mod Promises

@@ -3,3 +3,4 @@ pub mod Frame
 pub mod Decimal
 pub mod Answer
 pub mod Feed
+pub mod Replay

@@ -1,13 +1,11 @@
+-- `replay::replay_input` keeps the record good and ends with its turns. Assumes nothing.
 use native.Mathlib.Omega.{arith}
 use mathlib.Core.Path.{_≡_, refl, _∙_}
 use lib.ListN.{length}
-use Rattle.proxy_record.specs.Record.{Good}
 use borrow.Author.Needs.{needs}
+use Rattle.proxy_record.specs.Record.{Good}
 use Rattle.replay.proofs.replay_input.Statement.{statement}
 use Rattle.replay.proofs.replay_input.Tie as tie
-use Rattle.replay.proofs.replay_input.Reads as reads
-use Rattle.replay.proofs.replay_input.Lts as lts
-use Rattle.replay.proofs.replay_some.Reads as replay-some-reads
 
 abbrev Inv-loop : tie.InvT-loop
 Inv-loop words₀ list₀ held₀ input₀ out₀ n₀ turns₀ words list held input out n turns =
@@ -16,82 +14,63 @@ Inv-loop words₀ list₀ held₀ input₀ out₀ n₀ turns₀ words list held 
 abbrev μ-loop : tie.MeasureT-loop
 μ-loop words₀ list₀ held₀ input₀ out₀ n₀ turns₀ words list held input out n turns = turns
 
--- src/main.rt:66:5
 loop-holds : tie.Need-loop-holds Inv-loop μ-loop
 loop-holds c = (c .before .before .before .before .pre, refl, refl, refl, refl, refl)
 
--- src/main.rt:67:13
 replay-some-requires : tie.Need-replay-some-requires Inv-loop μ-loop
 replay-some-requires c κs = c .before .before .before .before .before .before .loop .inv .0
 
--- src/main.rt:68:24
 enum-known-turn : tie.Need-enum-known-turn Inv-loop μ-loop
 enum-known-turn c = search needs
 
--- src/main.rt:69:13
 enum-told : tie.Need-enum-told Inv-loop μ-loop
 enum-told c = search needs
 
--- src/main.rt:69:13
 same-length : tie.Need-same-length Inv-loop μ-loop
 same-length c = c .before .before .before .before .before .before .before .before .before .before .before .replay-some .kept .0 ∙ c .before .before .before .before .before .before .before .before .before .before .before .before .before .before .before .before .before .before .loop .inv .1
 
--- src/main.rt:69:13
 same-length-2 : tie.Need-same-length-2 Inv-loop μ-loop
 same-length-2 c = c .before .before .before .before .before .before .before .before .before .before .before .replay-some .kept .1 .0 ∙ c .before .before .before .before .before .before .before .before .before .before .before .before .before .before .before .before .before .before .loop .inv .2
 
--- src/main.rt:69:13
 same-length-3 : tie.Need-same-length-3 Inv-loop μ-loop
 same-length-3 c = c .before .before .before .before .before .before .before .before .before .before .before .replay-some .kept .1 .1 .0 ∙ c .before .before .before .before .before .before .before .before .before .before .before .before .before .before .before .before .before .before .loop .inv .3
 
--- src/main.rt:69:13
 same-length-4 : tie.Need-same-length-4 Inv-loop μ-loop
 same-length-4 c = c .before .before .before .before .before .before .before .before .before .before .before .replay-some .kept .1 .1 .1 .1 .0 ∙ c .before .before .before .before .before .before .before .before .before .before .before .before .before .before .before .before .before .before .loop .inv .4
 
--- src/main.rt:69:13
 same-length-5 : tie.Need-same-length-5 Inv-loop μ-loop
 same-length-5 c = c .before .before .before .before .before .before .before .before .before .before .before .replay-some .kept .1 .1 .1 .1 .1 .0 ∙ c .before .before .before .before .before .before .before .before .before .before .before .before .before .before .before .before .before .before .loop .inv .5
 
--- src/main.rt:69:13
 returns : tie.Need-returns Inv-loop μ-loop
 returns c = c .before .before .before .before .before .before .before .before .before .before .before .replay-some .ensures
 
--- src/main.rt:72:9
 sub-turns : tie.Need-sub-turns Inv-loop μ-loop
 sub-turns c = omega arith
 
--- src/main.rt:66:5
 loop-less : tie.Need-loop-less Inv-loop μ-loop
 loop-less c = omega arith
 
--- src/main.rt:66:5
 loop-again : tie.Need-loop-again Inv-loop μ-loop
 loop-again c =
     let k = c .before .before .before .before .before .before .before .before .before .before .before .before .replay-some .kept in
     let v = c .before .before .before .before .before .before .before .before .before .before .before .before .before .before .before .before .before .before .before .loop .inv in
     (c .before .before .before .before .before .before .before .before .before .before .before .before .replay-some .ensures, k .0 ∙ v .1, k .1 .0 ∙ v .2, k .1 .1 .0 ∙ v .3, k .1 .1 .1 .1 .0 ∙ v .4, k .1 .1 .1 .1 .1 .0 ∙ v .5)
 
--- src/main.rt:60:1
 same-length-6 : tie.Need-same-length-6 Inv-loop μ-loop
 same-length-6 c = c .before .loop .inv .1
 
--- src/main.rt:60:1
 same-length-7 : tie.Need-same-length-7 Inv-loop μ-loop
 same-length-7 c = c .before .loop .inv .2
 
--- src/main.rt:60:1
 same-length-8 : tie.Need-same-length-8 Inv-loop μ-loop
 same-length-8 c = c .before .loop .inv .3
 
--- src/main.rt:60:1
 same-length-9 : tie.Need-same-length-9 Inv-loop μ-loop
 same-length-9 c = c .before .loop .inv .4
 
--- src/main.rt:60:1
 same-length-10 : tie.Need-same-length-10 Inv-loop μ-loop
 same-length-10 c = c .before .loop .inv .5
 
--- src/main.rt:60:1
 returns-2 : tie.Need-returns-2 Inv-loop μ-loop
 returns-2 c = c .before .loop .inv .0
 

@@ -1,86 +1,63 @@
+-- `replay_lines::answer::answer_frame` meets its contract: each frame is a case of `stepOf`. Assumes nothing.
 use mir.Facts.{toZ-ofZ}
-use Rattle.replay_lines.proofs.AnswerLaws.{did-received, did-range, did-missing}
 use borrow.Author.Needs.{needs}
+use Rattle.replay_lines.proofs.AnswerLaws.{did-received, did-range, did-missing}
 use Rattle.replay_lines.proofs.answer.answer_frame.Statement.{statement}
 use Rattle.replay_lines.proofs.answer.answer_frame.Tie as tie
-use Rattle.replay_lines.proofs.answer.answer_frame.Reads as reads
-use Rattle.replay_lines.proofs.answer.answer_frame.Lts as lts
-use Rattle.replay_lines.proofs.answer.tell.Reads as tell-reads
-use Rattle.replay_lines.proofs.answer.tell_missing.Reads as tell-missing-reads
-use Rattle.writer_proxy.proofs.irrelevant.irrelevant_changes_range.Reads as irrelevant-changes-range-reads
-use Rattle.writer_proxy.proofs.received.received_changes_add.Reads as received-changes-add-reads
 
--- src/answer.rt:106:27
 enum-known-frame : tie.Need-enum-known-frame
 enum-known-frame c = search needs
 
--- src/answer.rt:107:17
 received-changes-add-requires : tie.Need-received-changes-add-requires
 received-changes-add-requires c κs = search needs
 
--- src/answer.rt:108:13
 tell-requires : tie.Need-tell-requires
 tell-requires c κs = search needs
 
--- src/answer.rt:108:13
 same-length : tie.Need-same-length
 same-length c = search needs
 
--- src/answer.rt:108:13
 same-length-2 : tie.Need-same-length-2
 same-length-2 c = search needs
 
--- src/answer.rt:108:13
 returns : tie.Need-returns
 returns c =
     (did-received _ _ _ _ _ _ _ _ _ _ (c .before .before .before .before .before .before .before .before .before .before .frame .given .1) (rw (toZ-ofZ (record { sfits = c .before .before .before .before .before .before .before .before .before .known-told .given .0 .1 })) at (c .before .before .before .before .before .before .before .received-changes-add .ensures .0)) (c .before .before .tell .ensures), c .before .before .before .before .before .before .before .received-changes-add .ensures .1)
 
--- src/answer.rt:110:24
 enum-known-frame-2 : tie.Need-enum-known-frame-2
 enum-known-frame-2 c = search needs
 
--- src/answer.rt:111:17
 irrelevant-changes-range-requires : tie.Need-irrelevant-changes-range-requires
 irrelevant-changes-range-requires c κs = search needs
 
--- src/answer.rt:112:13
 tell-requires-2 : tie.Need-tell-requires-2
 tell-requires-2 c κs = search needs
 
--- src/answer.rt:112:13
 same-length-3 : tie.Need-same-length-3
 same-length-3 c = search needs
 
--- src/answer.rt:112:13
 same-length-4 : tie.Need-same-length-4
 same-length-4 c = search needs
 
--- src/answer.rt:112:13
 returns-2 : tie.Need-returns-2
 returns-2 c =
     (did-range _ _ _ _ _ _ _ _ _ _ (c .before .before .before .before .before .before .before .before .before .before .frame2 .given .1) (rw (toZ-ofZ (record { sfits = c .before .before .before .before .before .before .before .before .before .known-told2 .given .0 .1 }), toZ-ofZ (record { sfits = c .before .before .before .before .before .before .before .before .before .known-told2 .given .1 .0 .1 })) at (c .before .before .before .before .before .before .before .irrelevant-changes-range .ensures .0)) (c .before .before .tell2 .ensures), c .before .before .before .before .before .before .before .irrelevant-changes-range .ensures .1)
 
--- src/answer.rt:114:26
 enum-known-frame-3 : tie.Need-enum-known-frame-3
 enum-known-frame-3 c = search needs
 
--- src/answer.rt:114:42
 tell-missing-requires : tie.Need-tell-missing-requires
 tell-missing-requires c κs = search needs
 
--- src/answer.rt:114:42
 same-length-5 : tie.Need-same-length-5
 same-length-5 c = search needs
 
--- src/answer.rt:114:42
 same-length-6 : tie.Need-same-length-6
 same-length-6 c = search needs
 
--- src/answer.rt:114:42
 same-length-7 : tie.Need-same-length-7
 same-length-7 c = search needs
 
--- src/answer.rt:114:42
 returns-3 : tie.Need-returns-3
 returns-3 c =
     (did-missing _ _ _ _ _ _ _ _ _ _ (c .before .before .before .before .before .before .before .before .frame3 .given .1) (c .before .before .before .before .before .before .before .before .before .before .before .before .pre .0 .made) (rw (toZ-ofZ (record { sfits = c .before .before .before .before .before .before .before .known-told3 .given .0 .1 }), toZ-ofZ (record { sfits = c .before .before .before .before .before .before .before .known-told3 .given .1 .0 .1 })) at (c .before .before .before .tell-missing .ensures .0)) (rw (toZ-ofZ (record { sfits = c .before .before .before .before .before .before .before .known-told3 .given .0 .1 }), toZ-ofZ (record { sfits = c .before .before .before .before .before .before .before .known-told3 .given .1 .0 .1 })) at (c .before .before .before .tell-missing .ensures .1)), c .before .before .before .before .before .before .before .before .before .before .before .before .pre .0)

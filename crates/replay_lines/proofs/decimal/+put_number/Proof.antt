@@ -1,9 +1,10 @@
+-- `replay_lines::decimal::put_number` meets its contract: a number below ten is one digit, any other has the digits of its tenth and its last one. The number itself falls from call to call. Assumes nothing.
+use Prim.Native.Nat.{ℕ, _<_}
 use native.Mathlib.Omega.{arith}
 use borrow.Author.Needs.{needs}
-use Rattle.replay_lines.proofs.DecimalLaws.{length-one, length-more, put-one, put-more}
-use Prim.Native.Nat.{ℕ, _<_}
 use borrow.Fn.Kinds.{In}
 use borrow.Fn.PlainCycle.{Measures, is, falls, and}
+use Rattle.replay_lines.proofs.DecimalLaws.{length-one, length-more, put-one, put-more}
 use Rattle.replay_lines.proofs.decimal.put_number.Reads as put-number
 use Rattle.replay_lines.proofs.decimal.put_number.Kinds as put-number-kinds
 use Rattle.replay_lines.proofs.decimal.+put_number.Lts-put_number as put-number-lts
@@ -21,7 +22,6 @@ abbrev put-number-below : ℕ → In 1 put-number-kinds.ps
 put-number-below t =
     and 1 put-number-kinds.ps (falls 1 put-number-kinds.ps _<_ μ-put-number t) put-number.Pre
 
--- src/decimal.rt:17:24
 put-number-cast-out :
     (t : ℕ) →
     put-number-lts.Need-cast-out
@@ -30,7 +30,6 @@ put-number-cast-out :
     put-number.Post
 put-number-cast-out t c = search needs
 
--- src/decimal.rt:17:19
 put-number-add-out :
     (t : ℕ) →
     put-number-lts.Need-add-out
@@ -39,28 +38,24 @@ put-number-add-out :
     put-number.Post
 put-number-add-out t c = search needs
 
--- src/decimal.rt:17:9
 put-number-slice-write-out : (t : ℕ) → put-number-lts.Need-slice-write-out (
   put-number-below t,
   put-number.Post,
 ) (put-number-at t) put-number.Post
 put-number-slice-write-out t c = omega (arith, length-one (c .before .before .args .n) (c .if1 .taken), c .before .before .pre .1)
 
--- src/decimal.rt:18:16
 put-number-add-result : (t : ℕ) → put-number-lts.Need-add-result (
   put-number-below t,
   put-number.Post,
 ) (put-number-at t) put-number.Post
 put-number-add-result t c = omega (arith, length-one (c .before .before .args .n) (c .if1 .taken), c .before .before .pre .1)
 
--- src/decimal.rt:18:9
 put-number-same-length : (t : ℕ) → put-number-lts.Need-same-length (
   put-number-below t,
   put-number.Post,
 ) (put-number-at t) put-number.Post
 put-number-same-length t c = search needs
 
--- src/decimal.rt:18:9
 put-number-returns :
     (t : ℕ) →
     put-number-lts.Need-returns
@@ -69,49 +64,42 @@ put-number-returns :
     put-number.Post
 put-number-returns t c = put-one _ _ _ (c .if1 .taken)
 
--- src/decimal.rt:20:9
 put-number-put-number-requires : (t : ℕ) → put-number-lts.Need-put-number-requires (
   put-number-below t,
   put-number.Post,
 ) (put-number-at t) put-number.Post
 put-number-put-number-requires t c κs = (omega (arith, c .before .before .before .pre .0, c .before .if1 .left), omega (arith, length-more (c .before .before .before .args .n) (c .before .if1 .left), c .before .before .before .pre .1))
 
--- src/decimal.rt:21:21
 put-number-cast-out-2 : (t : ℕ) → put-number-lts.Need-cast-out-2 (
   put-number-below t,
   put-number.Post,
 ) (put-number-at t) put-number.Post
 put-number-cast-out-2 t c = search needs
 
--- src/decimal.rt:21:16
 put-number-add-out-2 : (t : ℕ) → put-number-lts.Need-add-out-2 (
   put-number-below t,
   put-number.Post,
 ) (put-number-at t) put-number.Post
 put-number-add-out-2 t c = search needs
 
--- src/decimal.rt:21:5
 put-number-slice-write-out-2 : (t : ℕ) → put-number-lts.Need-slice-write-out-2 (
   put-number-below t,
   put-number.Post,
 ) (put-number-at t) put-number.Post
 put-number-slice-write-out-2 t c = omega (arith, length-more (c .before .before .before .before .before .before .args .n) (c .before .before .before .before .if1 .left), c .before .before .before .before .before .before .pre .1, c .before .before .put-number .ensures .1, c .before .before .put-number .kept .0)
 
--- src/decimal.rt:22:5
 put-number-add-result-2 : (t : ℕ) → put-number-lts.Need-add-result-2 (
   put-number-below t,
   put-number.Post,
 ) (put-number-at t) put-number.Post
 put-number-add-result-2 t c = omega (arith, length-more (c .before .before .before .before .before .before .args .n) (c .before .before .before .before .if1 .left), c .before .before .before .before .before .before .pre .1, c .before .before .put-number .ensures .1, c .before .before .put-number .kept .0)
 
--- src/decimal.rt:12:1
 put-number-same-length-2 : (t : ℕ) → put-number-lts.Need-same-length-2 (
   put-number-below t,
   put-number.Post,
 ) (put-number-at t) put-number.Post
 put-number-same-length-2 t c = search needs
 
--- src/decimal.rt:12:1
 put-number-returns-2 : (t : ℕ) → put-number-lts.Need-returns-2 (
   put-number-below t,
   put-number.Post,

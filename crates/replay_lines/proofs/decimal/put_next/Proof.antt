@@ -1,31 +1,24 @@
-use mathlib.Core.Path.{_∙_}
+-- `replay_lines::decimal::put_next` meets its contract: the digits follow the space. Assumes nothing.
 use native.Mathlib.Omega.{arith}
+use mathlib.Core.Path.{_∙_}
 use lib.ListN.{length-set}
-use Rattle.replay_lines.proofs.DecimalLaws.{put-spaced}
 use borrow.Author.Needs.{needs}
+use Rattle.replay_lines.proofs.DecimalLaws.{put-spaced}
 use Rattle.replay_lines.proofs.decimal.put_next.Statement.{statement}
 use Rattle.replay_lines.proofs.decimal.put_next.Tie as tie
-use Rattle.replay_lines.proofs.decimal.put_next.Reads as reads
-use Rattle.replay_lines.proofs.decimal.put_next.Lts as lts
-use Rattle.replay_lines.proofs.decimal.put_number.Reads as put-number-reads
 
--- src/decimal.rt:30:5
 slice-write-out : tie.Need-slice-write-out
 slice-write-out c = search needs
 
--- src/decimal.rt:31:21
 add-put-number : tie.Need-add-put-number
 add-put-number c = search needs
 
--- src/decimal.rt:31:5
 put-number-requires : tie.Need-put-number-requires
 put-number-requires c κs = simp length-set (omega arith)
 
--- src/decimal.rt:26:1
 same-length : tie.Need-same-length
 same-length c = c .before .before .put-number .kept .0 ∙ length-set (c .before .before .before .before .before .args .out .now) _ _
 
--- src/decimal.rt:26:1
 returns : tie.Need-returns
 returns c = put-spaced (c .before .before .before .before .before .args .out .now) _ _ _ _ (c .before .before .put-number .ensures .0) (c .before .before .put-number .ensures .1)
 

@@ -1,49 +1,37 @@
+-- `replay_lines::feed::feed` meets its contract: each answer is a case of `fed`. Assumes nothing.
+use borrow.Author.Needs.{needs}
 use Rattle.replay_lines.specs.Feed.{runOf}
 use Rattle.replay_lines.proofs.FeedLaws.{fed-no-list, fed-no-held, fed-no-count, fed-no-room}
-use borrow.Author.Needs.{needs}
 use Rattle.replay_lines.proofs.feed.feed.Statement.{statement}
 use Rattle.replay_lines.proofs.feed.feed.Tie as tie
-use Rattle.replay_lines.proofs.feed.feed.Reads as reads
-use Rattle.replay_lines.proofs.feed.feed.Lts as lts
-use Rattle.replay_lines.proofs.feed.take_bytes.Reads as take-bytes-reads
 
--- src/feed.rt:83:9
 returns : tie.Need-returns
 returns c = (fed-no-list (runOf _ _ _ _) _ _ (c .if1 .taken), (c .before .before .before .before .before .pre, tt))
 
--- src/feed.rt:86:9
 returns-2 : tie.Need-returns-2
 returns-2 c = (fed-no-held (runOf _ _ _ _) _ _ (c .before .if1 .left) (c .if2 .taken), (c .before .before .before .before .before .before .pre, tt))
 
--- src/feed.rt:89:9
 returns-3 : tie.Need-returns-3
 returns-3 c = (fed-no-count (runOf _ _ _ _) _ _ (c .before .before .if1 .left) (c .before .if2 .left) (c .if3 .taken), (c .before .before .before .before .before .before .before .pre, tt))
 
--- src/feed.rt:92:9
 returns-4 : tie.Need-returns-4
 returns-4 c = (fed-no-room (runOf _ _ _ _) _ _ (c .before .before .before .if1 .left) (c .before .before .if2 .left) (c .before .if3 .left) (c .if4 .taken), (c .before .before .before .before .before .before .before .before .pre, tt))
 
--- src/feed.rt:94:5
 take-bytes-requires : tie.Need-take-bytes-requires
 take-bytes-requires c κs = search needs
 
--- src/feed.rt:77:1
 same-length : tie.Need-same-length
 same-length c = search needs
 
--- src/feed.rt:77:1
 same-length-2 : tie.Need-same-length-2
 same-length-2 c = search needs
 
--- src/feed.rt:77:1
 same-length-3 : tie.Need-same-length-3
 same-length-3 c = search needs
 
--- src/feed.rt:77:1
 same-length-4 : tie.Need-same-length-4
 same-length-4 c = search needs
 
--- src/feed.rt:77:1
 returns-5 : tie.Need-returns-5
 returns-5 c = search needs
 

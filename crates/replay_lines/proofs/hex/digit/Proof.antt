@@ -1,56 +1,43 @@
+-- `replay_lines::hex::digit` meets its contract: each test leaves one range of bytes, and each range is a case of `digitOf`. Assumes nothing.
 use native.Mathlib.Omega.{arith}
-use Rattle.replay_lines.proofs.HexLaws.{digit-low, digit-decimal, digit-between, digit-upper, digit-between-cases, digit-lower, digit-high}
 use borrow.Author.Needs.{needs}
+use Rattle.replay_lines.proofs.HexLaws.{digit-low, digit-decimal, digit-between, digit-upper, digit-between-cases, digit-lower, digit-high}
 use Rattle.replay_lines.proofs.hex.digit.Statement.{statement}
 use Rattle.replay_lines.proofs.hex.digit.Tie as tie
-use Rattle.replay_lines.proofs.hex.digit.Reads as reads
-use Rattle.replay_lines.proofs.hex.digit.Lts as lts
 
--- src/hex.rt:13:9
 returns : tie.Need-returns
 returns c = digit-low _ (omega arith)
 
--- src/hex.rt:16:16
 cast-result : tie.Need-cast-result
 cast-result c = search needs
 
--- src/hex.rt:16:9
 returns-2 : tie.Need-returns-2
 returns-2 c = digit-decimal _ (omega arith) (omega arith)
 
--- src/hex.rt:19:9
 returns-3 : tie.Need-returns-3
 returns-3 c = digit-between _ (omega arith) (omega arith)
 
--- src/hex.rt:22:17
 sub-result : tie.Need-sub-result
 sub-result c = search needs
 
--- src/hex.rt:22:16
 cast-result-2 : tie.Need-cast-result-2
 cast-result-2 c = search needs
 
--- src/hex.rt:22:9
 returns-4 : tie.Need-returns-4
 returns-4 c = digit-upper _ (omega arith) (omega arith)
 
--- src/hex.rt:25:9
 returns-5 : tie.Need-returns-5
 returns-5 c = digit-between-cases _ (omega arith) (omega arith)
 
--- src/hex.rt:28:17
 sub-result-2 : tie.Need-sub-result-2
 sub-result-2 c = search needs
 
--- src/hex.rt:28:16
 cast-result-3 : tie.Need-cast-result-3
 cast-result-3 c = search needs
 
--- src/hex.rt:28:9
 returns-6 : tie.Need-returns-6
 returns-6 c = digit-lower _ (omega arith) (omega arith)
 
--- src/hex.rt:9:1
 returns-7 : tie.Need-returns-7
 returns-7 c = digit-high _ (omega arith)
 
