@@ -1,0 +1,7 @@
+pub mod HexLaws
+pub mod FrameLaws
+pub mod DecimalLaws
+pub mod AnswerLaws
+pub mod FeedLaws
+pub mod KnownValues
+pub mod Promises

@@ -1,0 +1,6 @@
+pub mod Hex
+pub mod Frame
+pub mod Decimal
+pub mod Answer
+pub mod Feed
+pub mod Replay

@@ -1,0 +1,145 @@
+// A line done on a proxy's record, and its answer line in a lent buffer.
+ghost use mathlib.Core.Path.{_≡_};
+ghost use mathlib.Core.List.{[], _∷_, map};
+ghost use Prim.Native.Nat.{_≤_};
+ghost use lib.ListN.{length, take};
+ghost use lib.Seq.{sets};
+ghost use Rattle.sequence_number.specs.Number.{top, natOf};
+ghost use Rattle.proxy_record.specs.Record.{Good, stateOf};
+ghost use Rattle.writer_proxy.specs.Answers.{refusalOf};
+ghost use Rattle.replay_lines.specs.Decimal.{started};
+ghost use Rattle.replay_lines.specs.Frame.{parsed};
+ghost use Rattle.replay_lines.specs.Answer.{room, enough, toldMissing, stepOf, Wrote, Did, answered, Answered};
+use crate::decimal::put_list;
+use crate::decimal::put_next;
+use crate::decimal::put_number;
+use crate::frame::Frame;
+use crate::frame::Parsed;
+use crate::frame::parse;
+use proxy_core::Report;
+use sequence_number::wire::Written;
+use writer_proxy::irrelevant::irrelevant_changes_range;
+use writer_proxy::missing::Listing;
+use writer_proxy::missing::missing_seqnums;
+use writer_proxy::query::all_ackable_before;
+use writer_proxy::received::received_changes_add;
+
+// "03 missing (start, end; room 256)".
+pub const ROOM: usize = 256;
+
+// The longest answer: `3 0`, a base of nineteen digits, a count of three, 256 numbers of nineteen digits, and a line feed.
+pub const ANSWER: usize = 5148;
+
+// Document 01's refusal number, or 0.
+fn refusal_of(r: Report) -> u64
+    ensures { λ n. ⌜ n ≡ refusalOf r ⌝ }
+{
+    match r {
+        Report::Done => 0,
+        Report::Forced(_, _) => 0,
+        Report::Refused(k) => k as u64,
+    }
+}
+
+// Kind, refusal and base, from the front.
+fn put_head(out: &mut [u8], kind: u64, refusal: u64, base: u64) -> usize
+    requires { ⌜ 63 ≤ length (now out) ⌝ }
+    ensures { λ r. ⌜ (now (out .exit) ≡ sets (now (out .entry)) 0 (started kind (refusal ∷ base ∷ []))) × (r ≡ length (started kind (refusal ∷ base ∷ []))) ⌝ }
+{
+    let a = put_number(out, 0, kind);
+    let b = put_next(out, a, refusal);
+    put_next(out, b, base)
+}
+
+// A line of kind, refusal and base.
+fn put_short(out: &mut [u8], kind: u64, refusal: u64, base: u64) -> usize
+    requires { ⌜ 63 ≤ length (now out) ⌝ }
+    ensures { λ r. ⌜ Wrote r (now (out .entry)) (now (out .exit)) kind (refusal ∷ base ∷ []) ⌝ }
+{
+    let end = put_head(out, kind, refusal, base);
+    out[end] = b'\n';
+    end + 1
+}
+
+// The line of a missing list: the first count numbers of the lent one.
+fn put_missing(out: &mut [u8], base: u64, list: &[i64], count: usize) -> usize
+    requires { ⌜ (enough ≤ length (now out)) × (base ≤ top) × (count ≤ room) × (count ≤ length (now list)) ⌝ }
+    ensures { λ r. ⌜ Wrote r (now (out .entry)) (now (out .exit)) 3 (0 ∷ base ∷ count ∷ map natOf (take count (now (list .entry)))) ⌝ }
+{
+    let a = put_head(out, 3, 0, base);
+    let b = put_next(out, a, count as u64);
+    let end = put_list(out, b, list, count);
+    out[end] = b'\n';
+    end + 1
+}
+
+// The line of a call that changed the proxy, or would have.
+fn tell(words: &[u64], kind: u64, r: Report, out: &mut [u8]) -> usize
+    requires { ⌜ Good (now words) × (enough ≤ length (now out)) ⌝ }
+    ensures { λ n. ⌜ Wrote n (now (out .entry)) (now (out .exit)) kind (refusalOf r ∷ stateOf (now (words .entry)) .base ∷ []) ⌝ }
+{
+    let refusal = refusal_of(r);
+    let base = all_ackable_before(words);
+    put_short(out, kind, refusal, base)
+}
+
+// What is missing, listed and told.
+fn tell_missing(words: &[u64], start: i64, end: i64, list: &mut [i64], out: &mut [u8]) -> usize
+    requires { ⌜ Good (now words) × (room ≤ length (now list)) × (enough ≤ length (now out)) ⌝ }
+    ensures { λ n. ⌜ Wrote n (now (out .entry)) (now (out .exit)) 3 (toldMissing start end (stateOf (now (words .entry))) (now (list .entry)) .after) ⌝ }
+    ensures { λ n. ⌜ now (list .exit) ≡ toldMissing start end (stateOf (now (words .entry))) (now (list .entry)) .list ⌝ }
+{
+    let listing = missing_seqnums(words, start, end, &mut list[..ROOM]);
+    let base = all_ackable_before(words);
+    match listing {
+        Listing::Listed(count) => return put_missing(out, base, list, count),
+        Listing::Refused(k) => return put_short(out, 3, k as u64, base),
+    }
+}
+
+// A frame, done and told.
+fn answer_frame(words: &mut [u64], frame: Frame, list: &mut [i64], out: &mut [u8]) -> usize
+    requires { ⌜ Good (now words) × (room ≤ length (now list)) × (enough ≤ length (now out)) ⌝ }
+    ensures { λ n. ⌜ Did n (now (words .exit)) (now (list .exit)) (now (out .entry)) (now (out .exit)) (stepOf (Parsed.Reads frame) (stateOf (now (words .entry))) (now (list .entry))) ⌝ }
+    ensures { λ n. ⌜ Good (now (words .exit)) ⌝ }
+{
+    match frame {
+        Frame::Received { number, time } => {
+            let r = received_changes_add(words, number, time);
+            return tell(words, 1, r, out);
+        }
+        Frame::Range { from, until } => {
+            let r = irrelevant_changes_range(words, from, until);
+            return tell(words, 2, r, out);
+        }
+        Frame::Missing { start, end } => return tell_missing(words, start, end, list, out),
+    }
+}
+
+// A line, without its line feed, read, done and told.
+pub(crate) fn answer(words: &mut [u64], line: &[u8], list: &mut [i64], out: &mut [u8]) -> usize
+    requires { ⌜ Good (now words) × (room ≤ length (now list)) × (enough ≤ length (now out)) ⌝ }
+    ensures { λ n. ⌜ Did n (now (words .exit)) (now (list .exit)) (now (out .entry)) (now (out .exit)) (stepOf (parsed (now (line .entry))) (stateOf (now (words .entry))) (now (list .entry))) ⌝ }
+    ensures { λ n. ⌜ Good (now (words .exit)) ⌝ }
+{
+    let Parsed::Reads(frame) = parse(line) else {
+        let base = all_ackable_before(words);
+        return put_short(out, 0, 1, base);
+    };
+    answer_frame(words, frame, list, out)
+}
+
+// The answer to a line, without its line feed: how many bytes were written. Refused with 3: a list shorter than ROOM, a buffer shorter than ANSWER.
+pub fn answer_line(words: &mut [u64], line: &[u8], list: &mut [i64], out: &mut [u8]) -> Written
+    requires { ⌜ Good (now words) ⌝ }
+    ensures { λ r. ⌜ Answered r (now (words .exit)) (now (list .exit)) (now (out .exit)) (answered (now (words .entry)) (now (line .entry)) (now (list .entry)) (now (out .entry))) ⌝ }
+    ensures { λ r. ⌜ Good (now (words .exit)) ⌝ }
+{
+    if list.len() < ROOM {
+        return Written::Refused(3);
+    }
+    if out.len() < ANSWER {
+        return Written::Refused(3);
+    }
+    Written::Wrote(answer(words, line, list, out))
+}

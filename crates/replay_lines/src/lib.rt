@@ -1,0 +1,5 @@
+pub mod answer;
+mod decimal;
+pub mod feed;
+pub mod frame;
+mod hex;
