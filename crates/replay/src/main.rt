@@ -1,6 +1,5 @@
 // Reads document 01's replay lines from standard input and writes the answer to each to standard output, as it goes.
 // Input and lines may have any length. The work is that of crate `replay_lines`; here it is fed and what it says is written.
-ghost use Prim.Native.Nat.{_≤_};
 ghost use mathlib.Core.Path.{_≡_};
 ghost use lib.ListN.{length};
 ghost use Rattle.proxy_record.specs.Record.{Good, size};

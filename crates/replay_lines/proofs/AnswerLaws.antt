@@ -1,11 +1,10 @@
 -- Laws of `specs/Answer.antt`: a whole line over what was there, and one law for each answer of the code. Assumes nothing.
 use Prim.Native.Nat.{ℕ, _+_, _<_, _≤_}
 use mathlib.Core.Path.{_≡_, refl, sym, ap, subst, _∙_}
-use mathlib.Core.Bool.{true, false}
 use mathlib.Core.List.{List, [], _∷_, _++_, map, append-assoc}
 use native.Mathlib.Omega.{arith}
 use lib.ListN.{length, take, drop, set, length-append, length-take, length-map}
-use lib.Seq.{sets, take-at}
+use lib.Seq.{take-at}
 use lib.Dec.{ltb, eqb}
 use lib.IntN.{ℤ, pos}
 use borrow.Author.Tests.{lt-ltb, le-ltb, ltb-false}

@@ -1,7 +1,6 @@
 -- Laws of `specs/Decimal.antt`: the digits of a number one by one, and how long a text is. Assumes nothing.
-use Prim.Native.Nat.{ℕ, zero, suc, _+_, _*_, _/_, _%_, _^_, _<_, _≤_}
+use Prim.Native.Nat.{ℕ, zero, suc, _+_, _/_, _%_, _^_, _<_, _≤_}
 use mathlib.Core.Path.{_≡_, refl, sym, ap, _∙_}
-use mathlib.Core.Bool.{true, false}
 use mathlib.Core.List.{List, [], _∷_, _++_, map, append-nil, append-assoc, map-append}
 use native.Mathlib.Omega.{arith}
 use native.Mathlib.Numerals.{add-one}

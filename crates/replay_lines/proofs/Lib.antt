@@ -4,4 +4,5 @@ pub mod DecimalLaws
 pub mod AnswerLaws
 pub mod FeedLaws
 pub mod KnownValues
+pub mod ReplayLaws
 pub mod Promises

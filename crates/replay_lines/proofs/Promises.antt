@@ -1,8 +1,8 @@
 -- The theorems of the replay lines, under document 01's words. A call's own promise is its contract; here is what follows. Assumes nothing.
-use Prim.Native.Nat.{ℕ, _<_, _≤_}
+use Prim.Native.Nat.{ℕ, _-_, _≤_}
 use mathlib.Core.Path.{_≡_, refl, sym, ap, _∙_}
 use mathlib.Core.Logic.{⊎-elim}
-use mathlib.Core.List.{List, [], _∷_}
+use mathlib.Core.List.{List, [], _∷_, _++_, append-nil}
 use native.Mathlib.Omega.{arith}
 use lib.ListN.{length, take}
 use lib.Seq.{take-all, length-take-le}
@@ -11,11 +11,14 @@ use Rattle.sequence_number.specs.declared.wire.Written.{Written}
 use Rattle.sequence_number.proofs.Split.{split-lt}
 use Rattle.proxy_record.specs.State.{State}
 use Rattle.replay_lines.specs.Frame.{parsed}
-use Rattle.replay_lines.specs.Answer.{stepOf, answered, Answered}
-use Rattle.replay_lines.specs.Feed.{kept, Run, fed, Fed-to}
+use Rattle.proxy_record.specs.Record.{recordOf, stateOf}
+use Rattle.replay_lines.specs.Answer.{Step, textOf, stepOf, answered, Answered}
+use Rattle.replay_lines.specs.Feed.{kept, Run, lineDoes, took, says, goOn, begin, fed, Fed-to}
+use Rattle.replay_lines.specs.Replay.{ran, said, NoFeed}
 use Rattle.replay_lines.specs.declared.feed.Fed.{Fed}
 use Rattle.replay_lines.specs.declared.frame.Parsed.the-variants.{Malformed}
 use Rattle.replay_lines.proofs.FrameLaws.{parsed-length}
+use Rattle.replay_lines.proofs.ReplayLaws.{ran-append, said-append, line-held, walk-ran}
 
 -- Determination: "prove that two answers allowed by it are equal", with the record, the list and the buffer
 
@@ -44,3 +47,30 @@ held-reads line =
     sym (parsed-length (take kept line) (λ e. omega arith)) ∙ parsed-length line (λ e. omega arith))
     (λ h. ap parsed (take-all kept line h))
     (split-lt kept (length line))
+
+-- Input
+
+-- a line and its line feed, from where no byte is held: its answer is said, and the record and the list are those after it
+pub line-said : (line : List ℕ) → NoFeed line → (r : Run) → kept ≤ length (r .held) → r .count ≡ 0
+    → let x = stepOf (parsed line) (stateOf (r .words)) (r .list) in
+    let after = ran (line ++ (10 ∷ [])) r in
+    (said (line ++ (10 ∷ [])) r ≡ textOf x) × (after .words ≡ recordOf (x .state)) × (after .list ≡ x .list) × (after .count ≡ 0)
+unfolding took says
+line-said line n r h z =
+    let t = line-held line n r h (omega arith) in
+    let u = ran line r in
+    let p : parsed (take (u .count) (u .held)) ≡ parsed line = ap parsed (t .3 ∙ ap (λ (k : ℕ). take kept (take k (r .held) ++ line)) z) ∙ held-reads line in
+    let q : lineDoes u ≡ stepOf (parsed line) (stateOf (r .words)) (r .list) = λ i. stepOf (p i) (stateOf (t .1 i)) (t .2 i) in (
+      said-append line (10 ∷ []) r ∙ ap (λ (l : List ℕ). l ++ (textOf (lineDoes u) ++ [])) (t .0) ∙ append-nil (textOf (lineDoes u)) ∙ ap textOf q,
+      ap (λ (y : Run). y .words) (ran-append line (10 ∷ []) r) ∙ ap (λ (y : Step). recordOf (y .state)) q,
+      ap (λ (y : Run). y .list) (ran-append line (10 ∷ []) r) ∙ ap (λ (y : Step). y .list) q,
+      ap (λ (y : Run). y .count) (ran-append line (10 ∷ []) r),
+    )
+
+-- a piece, as far as it is taken, byte after byte
+pub piece-said : (size : ℕ) (piece : List ℕ) (r : Run) → let x = goOn size piece (begin r) in (x .run ≡ ran (take (x .taken) piece) r) × (x .text ≡ said (take (x .taken) piece) r)
+piece-said size piece r =
+    let w = walk-ran size piece (begin r) in
+    let n = goOn size piece (begin r) .taken in
+    let z : n - 0 ≡ n = omega arith in
+    (rw z at (w .1), rw z at (w .2))

@@ -13,7 +13,7 @@ use Rattle.proxy_record.specs.State.{State}
 use Rattle.proxy_record.specs.Record.{recordOf, stateOf}
 use Rattle.proxy_core.specs.Calls.{Reply, received, irrelevantRange}
 use Rattle.writer_proxy.specs.Answers.{refusalOf}
-use Rattle.writer_proxy.specs.Missing.{Outcome, missingOf, listed}
+use Rattle.writer_proxy.specs.Missing.{missingOf, listed}
 use Rattle.writer_proxy.specs.declared.missing.Listing.{Listing}
 use Rattle.writer_proxy.specs.declared.missing.Listing.the-variants as Listing
 use Rattle.replay_lines.specs.Decimal.{lineOf}

@@ -7,7 +7,6 @@ use lib.Dec.{eqb}
 use mir.Syntax.{w64}
 use mir.Val.{toZ}
 use Rattle.replay_lines.specs.Hex.{allHex, valueAt}
-use Rattle.replay_lines.specs.declared.frame.Frame.{Frame}
 use Rattle.replay_lines.specs.declared.frame.Frame.the-variants.{Received, Range, Missing}
 use Rattle.replay_lines.specs.declared.frame.Parsed.{Parsed}
 use Rattle.replay_lines.specs.declared.frame.Parsed.the-variants.{Malformed, Reads}

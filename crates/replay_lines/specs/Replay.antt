@@ -1,11 +1,13 @@
 -- Lines one after the other, from the proxy's state on: what the replay writes. Assumes nothing.
+use Prim.Native.Nat.{ℕ}
+use mathlib.Core.Path.{_≡_}
 use mathlib.Core.List.{List, [], _∷_, _++_}
 use lib.ListN.{replicate}
 use lib.IntN.{ℤ, pos}
-use Prim.Native.Nat.{ℕ}
 use Rattle.proxy_record.specs.State.{State}
 use Rattle.replay_lines.specs.Frame.{parsed}
 use Rattle.replay_lines.specs.Answer.{Step, room, stepOf, textOf}
+use Rattle.replay_lines.specs.Feed.{Run, took, says}
 
 -- a list with just the room that document 01 gives
 unfoldable pub blank : List ℤ
@@ -17,3 +19,19 @@ lineStep line s = stepOf (parsed line) s blank
 unfoldable pub replayed : List (List ℕ) → State → List ℕ
 replayed [] s = []
 replayed (line ∷ lines) s = textOf (lineStep line s) ++ replayed lines (lineStep line s .state)
+
+-- Input as bytes
+
+-- bytes one after the other: what is lent after them, and all that was said
+abbrev pub ran : List ℕ → Run → Run
+ran [] r = r
+ran (b ∷ bs) r = ran bs (took b r)
+
+abbrev pub said : List ℕ → Run → List ℕ
+said [] r = []
+said (b ∷ bs) r = says b r ++ said bs (took b r)
+
+-- bytes without a line feed among them
+abbrev pub NoFeed : List ℕ → Type 0
+NoFeed [] = Unit {0}
+NoFeed (b ∷ bs) = (b ≡ 10 → ⊥) × NoFeed bs

@@ -1,8 +1,7 @@
 // Input in pieces of any size, cut into lines: no more is held of a line than shows that it is too long.
-ghost use mathlib.Core.Path.{_≡_};
 ghost use Prim.Native.Nat.{_+_, _≤_, _<_};
 ghost use lib.ListN.{length};
-ghost use Rattle.proxy_record.specs.Record.{Good, stateOf};
+ghost use Rattle.proxy_record.specs.Record.{Good};
 ghost use Rattle.replay_lines.specs.Answer.{room, enough};
 ghost use Rattle.replay_lines.specs.Feed.{kept, runOf, Stepped, fed, Fed-to, Within};
 use crate::answer::ANSWER;

@@ -1,0 +1,83 @@
+-- Laws of `specs/Replay.antt`: what is held of a line, and how far a piece is taken. Assumes nothing.
+use Prim.Native.Nat.{ℕ, suc, _-_, _≤_}
+use mathlib.Core.Path.{_≡_, refl, sym, ap, _∙_}
+use mathlib.Core.Logic.{⊎-elim}
+use mathlib.Core.List.{List, [], _∷_, _++_, append-assoc, append-nil}
+use native.Mathlib.Omega.{arith}
+use lib.ListN.{length, take, length-set}
+use lib.Seq.{take-suc-set, take-all, take-append-le, length-take-le}
+use lib.Dec.{ltb}
+use borrow.Author.Tests.{lt-ltb, le-ltb, ne-eqb}
+use Rattle.sequence_number.proofs.Split.{split, split-lt}
+use Rattle.replay_lines.specs.Answer.{enough}
+use Rattle.replay_lines.specs.Feed.{kept, Run, took, says, Progress, onward, goOn}
+use Rattle.replay_lines.specs.Replay.{ran, said, NoFeed}
+
+-- one run of bytes after another
+pub ran-append : (a b : List ℕ) (r : Run) → ran (a ++ b) r ≡ ran b (ran a r)
+ran-append [] b r = refl
+ran-append (x ∷ a) b r = ran-append a b (took x r)
+
+pub said-append : (a b : List ℕ) (r : Run) → said (a ++ b) r ≡ said a r ++ said b (ran a r)
+said-append [] b r = refl
+said-append (x ∷ a) b r = ap (λ (l : List ℕ). says x r ++ l) (said-append a b (took x r)) ∙ sym (append-assoc (says x r) (said a (took x r)) (said b (ran a (took x r))))
+
+-- a byte that is no line feed
+module _ (b : ℕ) (e : b ≡ 10 → ⊥) (r : Run) where
+  silent : says b r ≡ []
+  unfolding says
+  silent = rw (ne-eqb b 10 e)
+
+  keeps : (took b r .words ≡ r .words) × (took b r .list ≡ r .list) × (length (took b r .held) ≡ length (r .held))
+  unfolding took
+  keeps = split (ltb (r .count) kept) (λ h. rw (ne-eqb b 10 e, h) (refl, refl, length-set (r .held) (r .count) b)) (λ h. rw (ne-eqb b 10 e, h) (refl, refl, refl))
+
+  -- the bytes that are held: those before, and this one where there is room
+  holds : kept ≤ length (r .held) → r .count ≤ kept → (rest : List ℕ)
+      → (took b r .count ≤ kept) × (take kept (take (took b r .count) (took b r .held) ++ rest) ≡ take kept (take (r .count) (r .held) ++ (b ∷ rest)))
+  unfolding took
+  holds h c rest =
+      ⊎-elim
+      (λ p. rw (ne-eqb b 10 e, lt-ltb (r .count) kept p) (
+        omega arith,
+        ap (λ (l : List ℕ). take kept (l ++ rest)) (take-suc-set (r .held) (r .count) b (omega arith)) ∙ ap (take kept) (append-assoc (take (r .count) (r .held)) (b ∷ []) rest),
+      ))
+      (λ p.
+      let n : length (take (r .count) (r .held)) ≡ r .count = length-take-le (r .count) (r .held) (omega arith) in
+      let m : kept ≤ length (take (r .count) (r .held)) = omega arith in
+      rw (ne-eqb b 10 e, le-ltb (r .count) kept p) (
+        c,
+        take-append-le kept (take (r .count) (r .held)) rest m ∙ sym (take-append-le kept (take (r .count) (r .held)) (b ∷ rest) m),
+      ))
+      (split-lt (r .count) kept)
+
+-- a line so far: nothing is said, and its first bytes are held
+pub line-held : (line : List ℕ) → NoFeed line → (r : Run) → kept ≤ length (r .held) → r .count ≤ kept
+    → (said line r ≡ []) × (ran line r .words ≡ r .words) × (ran line r .list ≡ r .list)
+    × (take (ran line r .count) (ran line r .held) ≡ take kept (take (r .count) (r .held) ++ line))
+line-held [] n r h c = (refl, refl, refl, sym (ap (take kept) (append-nil (take (r .count) (r .held))) ∙ take-all kept (take (r .count) (r .held)) (omega (arith, length-take-le (r .count) (r .held) (omega arith)))))
+line-held (b ∷ line) n r h c =
+    let k = keeps b (n .0) r in
+    let s = holds b (n .0) r h c line in
+    let t = line-held line (n .1) (took b r) (omega (arith, k .2)) (s .0) in
+    (ap (λ (l : List ℕ). l ++ said line (took b r)) (silent b (n .0) r) ∙ t .0, t .1 ∙ k .0, t .2 ∙ k .1, t .3 ∙ s .1)
+
+-- how far a piece is taken, what is lent and what was said are those of its first bytes
+pub walk-ran : (size : ℕ) (piece : List ℕ) (x : Progress)
+    → (x .taken ≤ goOn size piece x .taken)
+    × (goOn size piece x .run ≡ ran (take (goOn size piece x .taken - x .taken) piece) (x .run))
+    × (goOn size piece x .text ≡ x .text ++ said (take (goOn size piece x .taken - x .taken) piece) (x .run))
+unfolding goOn
+walk-ran size [] x =
+    let z : x .taken - x .taken ≡ 0 = omega arith in
+    (omega arith, rw z, rw z (sym (append-nil (x .text))))
+walk-ran size (b ∷ piece) x =
+    split (ltb (size - length (x .text)) enough)
+    (λ e.
+    let z : x .taken - x .taken ≡ 0 = omega arith in
+    rw e (omega arith, rw z, rw z (sym (append-nil (x .text)))))
+    (λ e.
+    let w = walk-ran size piece (onward b x) in
+    let y = goOn size piece (onward b x) .taken in
+    let z : y - x .taken ≡ suc (y - suc (x .taken)) = omega (arith, w .0) in
+    rw e (omega (arith, w .0), rw z (w .1), rw z (w .2 ∙ append-assoc (x .text) (says b (x .run)) (said (take (y - suc (x .taken)) piece) (took b (x .run))))))
