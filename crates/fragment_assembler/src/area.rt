@@ -5,7 +5,7 @@ ghost use lib.ListN.{length, take, replicate};
 ghost use lib.Seq.{paste};
 
 // The lesser of two lengths.
-pub fn less(a: usize, b: usize) -> usize
+pub(crate) fn less(a: usize, b: usize) -> usize
     ensures { λ r. ⌜ r ≡ min a b ⌝ }
 {
     if a < b {
@@ -36,7 +36,7 @@ fn copy(d: &mut [u8], s: &[u8])
 }
 
 // The middle part of the area from `at`, n bytes, set to zero.
-pub fn clear_at(area: &mut [u8], at: usize, n: usize)
+pub(crate) fn clear_at(area: &mut [u8], at: usize, n: usize)
     requires { ⌜ at + n ≤ length (now area) ⌝ }
     ensures { λ _. ⌜ now (area .exit) ≡ paste (now (area .entry)) at (replicate n 0) n ⌝ }
 {
@@ -44,7 +44,7 @@ pub fn clear_at(area: &mut [u8], at: usize, n: usize)
 }
 
 // The first n bytes of the payload, copied to the middle part of the area from `at`.
-pub fn copy_at(area: &mut [u8], at: usize, payload: &[u8], n: usize)
+pub(crate) fn copy_at(area: &mut [u8], at: usize, payload: &[u8], n: usize)
     requires { ⌜ (at + n ≤ length (now area)) × (n ≤ length (now payload)) ⌝ }
     ensures { λ _. ⌜ now (area .exit) ≡ paste (now (area .entry)) at (now (payload .entry)) n ⌝ }
 {

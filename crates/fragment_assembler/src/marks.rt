@@ -8,7 +8,7 @@ ghost use Rattle.fragment_assembler.specs.Marks.{marked, markRun, all};
 ghost use Rattle.fragment_assembler.specs.Missing.{gaps};
 
 // The n marks from k, counted from 0, are set.
-pub fn mark_run(m: &mut [u64], k: usize, n: usize)
+pub(crate) fn mark_run(m: &mut [u64], k: usize, n: usize)
     requires { ⌜ (k + n ≤ 256) × (length (now m) ≡ 4) ⌝ }
     ensures { λ _. ⌜ now (m .exit) ≡ markRun (now (m .entry)) k n ⌝ }
 {
@@ -34,7 +34,7 @@ fn is_marked(m: &[u64], j: usize) -> bool
 }
 
 // Whether the first n marks are set. The last is asked first: fragments mostly come in order, and then it is the one that is missing.
-pub fn is_complete(m: &[u64], n: usize) -> bool
+pub(crate) fn is_complete(m: &[u64], n: usize) -> bool
     requires { ⌜ (n ≤ 256) × (length (now m) ≡ 4) ⌝ }
     ensures { λ r. ⌜ r ≡ all (marked (now (m .entry))) n ⌝ }
 {
@@ -49,7 +49,7 @@ pub fn is_complete(m: &[u64], n: usize) -> bool
 }
 
 // How many of the first n marks are not set.
-pub fn count_gaps(m: &[u64], n: usize) -> usize
+pub(crate) fn count_gaps(m: &[u64], n: usize) -> usize
     requires { ⌜ (length (now m) ≡ 4) × (n ≤ 256) ⌝ }
     ensures { λ r. ⌜ r ≡ length (gaps (now (m .entry)) n) ⌝ }
 {
@@ -66,7 +66,7 @@ pub fn count_gaps(m: &[u64], n: usize) -> usize
 }
 
 // The fragments that lack a mark among the first n, numbered from 1, in front of the lent list.
-pub fn list_gaps(m: &[u64], n: usize, out: &mut [u32])
+pub(crate) fn list_gaps(m: &[u64], n: usize, out: &mut [u32])
     requires { ⌜ (length (now m) ≡ 4) × ((n ≤ 256) × (length (gaps (now m) n) ≤ length (now out))) ⌝ }
     ensures { λ _. ⌜ now (out .exit) ≡ over (gaps (now (m .entry)) n) (now (out .entry)) ⌝ }
 {

@@ -18,7 +18,7 @@ ghost use Rattle.fragment_assembler.specs.Words.{placesOf, stateOf};
 ghost use Rattle.fragment_assembler.specs.Rules.{Good};
 
 // F, how many fragments a sample of d bytes has.
-pub fn count_of(d: u64, f: u64) -> usize
+pub(crate) fn count_of(d: u64, f: u64) -> usize
     requires { ⌜ (0 < f) × ((f < 65536) × (d < 4294967296)) ⌝ }
     ensures { λ r. ⌜ r ≡ fragments d f ⌝ }
 {
@@ -49,7 +49,7 @@ fn refuse_run(d: u64, f: u64, start: u32, count: u16) -> u8
 }
 
 // The refusal of a call whose number stands at `at`, 0 where it is accepted; `long` is the area's length.
-pub fn refuse(
+pub(crate) fn refuse(
     t: &[u64],
     at: usize,
     long: usize,

@@ -16,7 +16,7 @@ ghost use Rattle.fragment_assembler.specs.Marks.{marked, all};
 ghost use Rattle.fragment_assembler.specs.Words.{placeOf, placesOf};
 ghost use Rattle.fragment_assembler.specs.Inner.{Became, openedRow, ran};
 
-pub fn wipe(d: &mut [u64])
+pub(crate) fn wipe(d: &mut [u64])
     ensures { λ _. ⌜ now (d .exit) ≡ replicate (length (now (d .entry))) 0 ⌝ }
 {
     let mut i = 0;
@@ -45,7 +45,7 @@ fn run_row(row: &mut [u64], number: u64, time: u64, k: usize, n: usize)
 }
 
 // Place `seat` holds a sample of which nothing has come yet.
-pub fn open_at(t: &mut [u64], seat: usize, number: u64, size: u64)
+pub(crate) fn open_at(t: &mut [u64], seat: usize, number: u64, size: u64)
     requires { ⌜ (length (now t) ≡ 906) × (seat < 129) ⌝ }
     ensures { λ _. ⌜ Became (now (t .entry)) (set (placesOf (now (t .entry))) seat (placeOf (openedRow number size))) (now (t .exit)) ⌝ }
 {
@@ -55,7 +55,7 @@ pub fn open_at(t: &mut [u64], seat: usize, number: u64, size: u64)
 }
 
 // Place `seat` takes the time and the marks of a run.
-pub fn run_at(t: &mut [u64], seat: usize, number: u64, time: u64, k: usize, n: usize)
+pub(crate) fn run_at(t: &mut [u64], seat: usize, number: u64, time: u64, k: usize, n: usize)
     requires { ⌜ (length (now t) ≡ 906) × ((seat < 129) × (k + n ≤ 256)) ⌝ }
     ensures { λ _. ⌜ Became (now (t .entry)) (set (placesOf (now (t .entry))) seat (ran (at (placesOf (now (t .entry))) seat) number time k n)) (now (t .exit)) ⌝ }
 {
@@ -65,7 +65,7 @@ pub fn run_at(t: &mut [u64], seat: usize, number: u64, time: u64, k: usize, n: u
 }
 
 // Place `seat` is freed.
-pub fn wipe_at(t: &mut [u64], seat: usize)
+pub(crate) fn wipe_at(t: &mut [u64], seat: usize)
     requires { ⌜ (length (now t) ≡ 906) × (seat < 129) ⌝ }
     ensures { λ _. ⌜ Became (now (t .entry)) (set (placesOf (now (t .entry))) seat free) (now (t .exit)) ⌝ }
 {
@@ -75,7 +75,7 @@ pub fn wipe_at(t: &mut [u64], seat: usize)
 }
 
 // Whether the first n fragments of place `seat` have come.
-pub fn whole_at(t: &[u64], seat: usize, n: usize) -> bool
+pub(crate) fn whole_at(t: &[u64], seat: usize, n: usize) -> bool
     requires { ⌜ (length (now t) ≡ 906) × ((seat < 129) × (n ≤ 256)) ⌝ }
     ensures { λ r. ⌜ r ≡ all (marked (at (placesOf (now (t .entry))) seat .marks)) n ⌝ }
 {

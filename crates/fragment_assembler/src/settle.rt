@@ -98,7 +98,7 @@ fn insert_frags(
 }
 
 // A fragment call whose number was taken, or is 0. The number is sought once, and a free place only where it opens.
-pub fn take_frags(
+pub(crate) fn take_frags(
     t: &mut [u64],
     area: &mut [u8],
     time: u64,

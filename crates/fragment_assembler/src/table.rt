@@ -13,7 +13,7 @@ ghost use Rattle.fragment_assembler.specs.Call.{victim};
 ghost use Rattle.fragment_assembler.specs.Words.{placesOf};
 
 // The lowest place that has the number n, 129 where none has; the lowest free place for n = 0.
-pub fn seek(t: &[u64], n: u64) -> usize
+pub(crate) fn seek(t: &[u64], n: u64) -> usize
     requires { ⌜ length (now t) ≡ 906 ⌝ }
     ensures { λ r. ⌜ r ≡ find n (placesOf (now (t .entry))) ⌝ }
 {
@@ -60,7 +60,7 @@ fn lowest(t: &[u64]) -> u64
 }
 
 // Which number goes where 129 are in assembly.
-pub fn pick_victim(t: &[u64]) -> u64
+pub(crate) fn pick_victim(t: &[u64]) -> u64
     requires { ⌜ length (now t) ≡ 906 ⌝ }
     ensures { λ r. ⌜ r ≡ victim (eqb (getD (now (t .entry)) 2 0) 1) (placesOf (now (t .entry))) ⌝ }
 {
