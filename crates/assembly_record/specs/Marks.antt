@@ -1,5 +1,5 @@
 -- The marks of a place: 256 bits in four words of 64, bit j, from the low end of word 0, for fragment j + 1. Assumes nothing.
-use Prim.Native.Nat.{ℕ, zero, suc, _+_, _*_, _-_, _/_, _%_, _^_}
+use Prim.Native.Nat.{ℕ, zero, suc, _+_, _/_, _%_, _^_}
 use mathlib.Core.Bool.{Bool, true, cond, _&&_}
 use mathlib.Core.List.{List, [], _∷_, _++_}
 use lib.ListN.{getD, set}
