@@ -1,0 +1,161 @@
+-- Document 01's table of refusals as theorems: one file to hold beside the paper. First what a row is and what the table says of a call, then the rows
+-- of each call in the paper's order and words, then `RefusalTable`: for each public call that can be refused, what follows from its promise. The proof
+-- is `refusal-table` of `proofs/TableProof.antt`. Assumes nothing.
+use Prim.Native.Nat.{ℕ, zero, suc, _+_, _<_, _≤_, _^_}
+use mathlib.Core.Path.{_≡_}
+use mathlib.Core.Bool.{Bool, true}
+use mathlib.Core.Logic.{_⊎_, _↔_}
+use mathlib.Core.List.{List, [], _∷_, List·Memᴰ}
+use lib.ListN.{length, getD}
+use lib.IntN.{ℤ, pos}
+use lib.Signed.{_≤ℤ_}
+use Rattle.sequence_number.specs.Outcome.{Outcome}
+use Rattle.sequence_number.specs.Outcome as outcome
+use Rattle.sequence_number.specs.Kind.{Kind, sequence, fragment}
+use Rattle.sequence_number.specs.Word.{wordAt}
+use Rattle.sequence_number.specs.NumberWire.{readSequence, readFragment, wrote, readNumber, Writes}
+use Rattle.sequence_number.specs.NumberSet.{NumberSet, members, bytesOf}
+use Rattle.sequence_number.specs.SetWire.{Taken, setBytes, readSet, sequenceSetRead, fragmentSetRead, measured, measureSet, WritesSet}
+use Rattle.sequence_number.specs.Make.{makeSet, sequenceSetMade, fragmentSetMade}
+use Rattle.sequence_number.specs.Walk.{walked, Walks}
+use Rattle.sequence_number.specs.declared.ByteOrder.{ByteOrder}
+use Rattle.sequence_number.specs.declared.wire.Written.{Written}
+use Rattle.sequence_number.specs.declared.set.Measured.{Measured}
+use Rattle.sequence_number.specs.declared.set.Walked.{Walked}
+
+-- ==== A row, and what the table says of a call
+
+-- a row: its number, and its condition, which stands under "Given exactly when"
+pub record Row : Type 1 where
+  pub number : ℕ
+  pub condition : Type 0
+
+abbrev pub row : ℕ → Type 0 → Row
+row n condition = record { number = n; condition = condition }
+
+-- a row with the number n holds, and no row before it does
+abbrev pub GivenBy : ℕ → List Row → Type 0
+GivenBy n [] = ⊥
+GivenBy n (r ∷ rows) = ((r .number ≡ n) × r .condition) ⊎ ((r .condition → ⊥) × GivenBy n rows)
+
+abbrev pub NoneHolds : List Row → Type 0
+NoneHolds [] = Unit {0}
+NoneHolds (r ∷ rows) = (r .condition → ⊥) × NoneHolds rows
+
+-- what an answer says, whatever else stands in it
+pub data Verdict : Type 0 where
+  accepted : Verdict
+  refused : ℕ → Verdict
+
+-- "Given exactly when": refused with n if and only if row n holds and none earlier in the order; accepted if and only if none holds
+pub record Exactly (v : Verdict) (rows : List Row) : Type 0 where
+  pub refused-with : (n : ℕ) → (v ≡ refused n) ↔ GivenBy n rows
+  pub otherwise : (v ≡ accepted) ↔ NoneHolds rows
+
+-- and "Every refusal .. leaves state, area and output untouched": what a call may write, before it and after it
+pub record Refuses {A : Type 0} (v : Verdict) (rows : List Row) (before after : A) : Type 0 where
+  pub exactly : Exactly v rows
+  pub untouched : (n : ℕ) → v ≡ refused n → after ≡ before
+
+-- 3: "lent output shorter than the answer (added)"
+abbrev pub shorter : {A B : Type 0} → List A → List B → Row
+shorter out answer = row 3 (length out < length answer)
+
+-- ==== Numbers and sets (crate sequence_number), over the kind of number
+
+-- what the answers say
+abbrev pub verdict : {A : Type 0} → Outcome A → Verdict
+verdict (outcome.refused n) = refused n
+verdict (outcome.done a) = accepted
+
+-- an answer with a refusal number, 0 where it is accepted
+abbrev pub numbered : ℕ → Verdict
+numbered zero = accepted
+numbered (suc n) = refused (suc n)
+
+-- A number read: its bytes end early
+abbrev pub readNumberRows : Kind → List ℕ → List Row
+readNumberRows k s = row 1 (length s < k .size) ∷ []
+
+abbrev pub ReadNumber : (k : Kind) {R : Type 0} → (R → Outcome (k .Number)) → Type 0
+ReadNumber k {R} said = (o : ByteOrder) (s : List ℕ) (r : R) → said r ≡ readNumber k o s → Exactly (verdict (said r)) (readNumberRows k s)
+
+-- A number written
+abbrev pub writeNumberRows : (k : Kind) → ByteOrder → k .Number → List ℕ → List Row
+writeNumberRows k o n out = shorter out (k .numberBytes o n) ∷ []
+
+abbrev pub WriteNumber : Kind → Type 0
+WriteNumber k = (o : ByteOrder) (n : k .Number) (out after : List ℕ) (r : Written) → Writes k o n out r after
+    → Refuses (verdict (wrote r)) (writeNumberRows k o n out) out after
+
+-- "Set reading: 1 for base or count, 2, 1 for words"; 1: "set bytes end early", 2: "bit count above 256"
+abbrev pub readSetRows : Kind → ByteOrder → List ℕ → List Row
+readSetRows k o s =
+    row 1 (length s < k .size + 4)
+    ∷ row 2 (256 < wordAt o s (k .size))
+    ∷ row 1 (length s < bytesOf (k .size) (wordAt o s (k .size)))
+    ∷ []
+
+abbrev pub ReadSet : (k : Kind) {R : Type 0} → (Outcome (Taken (k .Number)) → R) → (R → ℕ) → Type 0
+ReadSet k {R} answer refusal = (o : ByteOrder) (s : List ℕ) (r : R) → r ≡ answer (readSet k o s) → Exactly (numbered (refusal r)) (readSetRows k o s)
+
+-- "A set walked: 2, 4, 3"; 4: "a member past its type in a set walked (added)"
+abbrev pub walkRows : (k : Kind) → (k .Number → Type 0) → NumberSet (k .Number) → List (k .Number) → List Row
+walkRows k Past s out =
+    row 2 (256 < s .count)
+    ∷ row 4 ((m : k .Number) × List·Memᴰ m (members k s) × Past m)
+    ∷ shorter out (members k s)
+    ∷ []
+
+abbrev pub WalkSet : (k : Kind) → (k .Number → Type 0) → Type 0
+WalkSet k Past = (s : NumberSet (k .Number)) (up : Bool) (out after : List (k .Number)) (r : Walked) → Walks k s up out r after
+    → Refuses (verdict (walked r)) (walkRows k Past s out) out after
+
+abbrev pub PastSequence : ℤ → Type 0
+PastSequence m = pos (2 ^ 63) ≤ℤ m
+
+abbrev pub PastFragment : ℕ → Type 0
+PastFragment m = 2 ^ 32 ≤ m
+
+-- "written: 2, 3"
+abbrev pub writeSetRows : (k : Kind) → ByteOrder → NumberSet (k .Number) → List ℕ → List Row
+writeSetRows k o s out = row 2 (256 < s .count) ∷ shorter out (setBytes k o s) ∷ []
+
+abbrev pub WriteSet : Kind → Type 0
+WriteSet k = (o : ByteOrder) (s : NumberSet (k .Number)) (out after : List ℕ) (r : Written) → WritesSet k o s out r after
+    → Refuses (verdict (wrote r)) (writeSetRows k o s out) out after
+
+-- "measured: 2"
+abbrev pub measureSetRows : (k : Kind) → NumberSet (k .Number) → List Row
+measureSetRows k s = row 2 (256 < s .count) ∷ []
+
+abbrev pub MeasureSet : Kind → Type 0
+MeasureSet k = (s : NumberSet (k .Number)) (r : Measured) → measured r ≡ measureSet (k .size) (s .count) → Exactly (verdict (measured r)) (measureSetRows k s)
+
+-- "Making: 15"; 15: "list not strictly rising (added)"
+abbrev pub StrictlyRising : (k : Kind) → List (k .Number) → Type 0
+StrictlyRising k xs = (i : ℕ) → suc i < length xs → k .below (getD xs i (k .nought)) (getD xs (suc i) (k .nought)) ≡ true
+
+abbrev pub makeSetRows : (k : Kind) → List (k .Number) → List Row
+makeSetRows k xs = row 15 (StrictlyRising k xs → ⊥) ∷ []
+
+abbrev pub MakeSet : (k : Kind) {R : Type 0} → (Outcome (NumberSet (k .Number)) → R) → (R → ℕ) → Type 0
+MakeSet k {R} answer refusal = (base : k .Number) (xs : List (k .Number)) (r : R) → r ≡ answer (makeSet k base xs)
+    → Exactly (numbered (refusal r)) (makeSetRows k xs)
+
+-- `number_of` and `natural` (module number) have no refusal: a number that row 4 names is 0 there.
+
+-- ==== The table
+
+pub record RefusalTable : Type 0 where
+  -- wire
+  pub read-sequence-number : ReadNumber sequence readSequence
+  pub read-fragment-number : ReadNumber fragment readFragment
+  pub write-sequence-number : WriteNumber sequence
+  pub write-fragment-number : WriteNumber fragment
+  -- SequenceNumberSet and FragmentNumberSet
+  pub read-from : ReadSet sequence sequenceSetRead (λ r. r .refusal) × ReadSet fragment fragmentSetRead (λ r. r .refusal)
+  pub write-to : WriteSet sequence × WriteSet fragment
+  pub len-serialized : MeasureSet sequence × MeasureSet fragment
+  pub from-base-and-set : MakeSet sequence sequenceSetMade (λ r. r .refusal) × MakeSet fragment fragmentSetMade (λ r. r .refusal)
+  pub iter : WalkSet sequence PastSequence × WalkSet fragment PastFragment
