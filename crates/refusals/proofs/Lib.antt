@@ -1,3 +1,4 @@
 pub mod RowLaws
 pub mod SetRows
+pub mod ProxyRows
 pub mod TableProof

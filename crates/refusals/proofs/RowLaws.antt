@@ -11,7 +11,7 @@ use Rattle.sequence_number.specs.Outcome.{Outcome, left}
 use Rattle.sequence_number.specs.Outcome as outcome
 use Rattle.refusals.specs.RefusalTable.{Row, row, GivenBy, NoneHolds, Verdict, accepted, refused, Exactly, verdict, numbered}
 
-not-refused : (n : ℕ) → accepted ≡ refused n → ⊥
+pub not-refused : (n : ℕ) → accepted ≡ refused n → ⊥
 not-refused n e = let z : _≡_ {A = ℕ} 0 1 = cc in omega arith
 
 same-number : (n m : ℕ) → refused n ≡ refused m → n ≡ m

@@ -1,6 +1,6 @@
 -- The table is proved, call by call. Assumes nothing.
 use mathlib.Core.Path.{_≡_, refl}
-use lib.IntN.{ℤ}
+use lib.IntN.{ℤ, pos}
 use Prim.Native.Nat.{ℕ}
 use Rattle.sequence_number.specs.Outcome.{Outcome, refused, done, refusal}
 use Rattle.sequence_number.specs.Kind.{sequence, fragment}
@@ -10,6 +10,8 @@ use Rattle.sequence_number.specs.SetWire.{Taken, sequenceSetRead, fragmentSetRe
 use Rattle.sequence_number.specs.Make.{sequenceSetMade, fragmentSetMade}
 use Rattle.sequence_number.proofs.KindLaws.{sequence-lawful, fragment-lawful}
 use Rattle.refusals.specs.RefusalTable.{RefusalTable, PastSequence, PastFragment}
+use Rattle.proxy_record.specs.Record.{stateOf}
+use Rattle.refusals.proofs.ProxyRows.{add-rows, irrelevant-rows, range-rows, missing-rows, set-up-rows}
 use Rattle.refusals.proofs.SetRows.{number-read, number-written, set-read, set-written, set-measured, set-made, set-walked, sequence-over, sequence-within, fragment-over, fragment-within}
 
 -- the answers that hold a set have the refusal's number
@@ -41,4 +43,10 @@ refusal-table =
       len-serialized = (set-measured sequence, set-measured fragment);
       from-base-and-set = (set-made sequence sequenceSetMade (λ r. r .refusal) sequence-made, set-made fragment fragmentSetMade (λ r. r .refusal) fragment-made);
       iter = (set-walked sequence PastSequence sequence-over sequence-within, set-walked fragment PastFragment fragment-over fragment-within);
+      proxy-set-up = set-up-rows;
+      received-changes-add = λ w w′ n time r g f. add-rows w w′ n r g f time;
+      set-irrelevant-change = irrelevant-rows;
+      irrelevant-changes-range = range-rows;
+      irrelevant-changes-up-to = λ w w′. range-rows w w′ (pos 0);
+      missing-seqnums = λ w start end out after r g. missing-rows start end (stateOf w) out after r;
     }

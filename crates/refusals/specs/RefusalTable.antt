@@ -1,14 +1,16 @@
 -- Document 01's table of refusals as theorems: one file to hold beside the paper. First what a row is and what the table says of a call, then the rows
 -- of each call in the paper's order and words, then `RefusalTable`: for each public call that can be refused, what follows from its promise. The proof
 -- is `refusal-table` of `proofs/TableProof.antt`. Assumes nothing.
-use Prim.Native.Nat.{ℕ, zero, suc, _+_, _<_, _≤_, _^_}
+use Prim.Native.Nat.{ℕ, zero, suc, _+_, _-_, _<_, _≤_, _^_}
 use mathlib.Core.Path.{_≡_}
 use mathlib.Core.Bool.{Bool, true}
 use mathlib.Core.Logic.{_⊎_, _↔_}
 use mathlib.Core.List.{List, [], _∷_, List·Memᴰ}
 use lib.ListN.{length, getD}
 use lib.IntN.{ℤ, pos}
-use lib.Signed.{_≤ℤ_}
+use lib.Signed.{_≤ℤ_, _<ℤ_}
+use mir.Syntax.{w64}
+use mir.Val.{SFits}
 use Rattle.sequence_number.specs.Outcome.{Outcome}
 use Rattle.sequence_number.specs.Outcome as outcome
 use Rattle.sequence_number.specs.Kind.{Kind, sequence, fragment}
@@ -22,6 +24,15 @@ use Rattle.sequence_number.specs.declared.ByteOrder.{ByteOrder}
 use Rattle.sequence_number.specs.declared.wire.Written.{Written}
 use Rattle.sequence_number.specs.declared.set.Measured.{Measured}
 use Rattle.sequence_number.specs.declared.set.Walked.{Walked}
+use Rattle.proxy_record.specs.State.{State, begun}
+use Rattle.proxy_record.specs.Record.{recordOf, stateOf, Good}
+use Rattle.proxy_core.specs.Calls.{received, irrelevant, irrelevantRange, upTo, Answered}
+use Rattle.proxy_core.specs.declared.Report.{Report}
+use Rattle.proxy_core.specs.declared.Report.the-variants as Report
+use Rattle.writer_proxy.specs.SetUp.{setUp}
+use Rattle.writer_proxy.specs.Missing.{missingOf, listed}
+use Rattle.writer_proxy.specs.declared.missing.Listing.{Listing}
+use Rattle.writer_proxy.specs.declared.missing.Listing.the-variants as Listing
 
 -- ==== A row, and what the table says of a call
 
@@ -145,6 +156,32 @@ MakeSet k {R} answer refusal = (base : k .Number) (xs : List (k .Number)) (r : R
 
 -- `number_of` and `natural` (module number) have no refusal: a number that row 4 names is 0 there.
 
+-- ==== The writer proxy (crate writer_proxy); `SFits w64 n` says that n is an i64
+
+-- what the answers say: a forced step is an accepted call
+abbrev pub reported : Report → Verdict
+reported Report.Done = accepted
+reported (Report.Forced old new) = accepted
+reported (Report.Refused n) = refused n
+
+abbrev pub listing : Listing → Verdict
+listing (Listing.Listed n) = accepted
+listing (Listing.Refused n) = refused n
+
+-- 4: "number below 1 or equal to 2^63 - 1 in received, one irrelevant or fragment"
+abbrev pub notTaken : ℤ → Row
+notTaken n = row 4 ((n <ℤ pos 1) ⊎ (n ≡ pos (2 ^ 63 - 1)))
+
+-- 5: "range with a > b"; "Up to s" is the range 0 until s
+abbrev pub rangeRows : ℤ → ℤ → List Row
+rangeRows a b = row 5 (b <ℤ a) ∷ []
+
+-- "Missing numbers: 4, then 3"; 4: "heartbeat end 2^63 - 1"
+abbrev pub missingRows : ℤ → ℤ → State → List ℤ → List Row
+missingRows start end s out = row 4 (end ≡ pos (2 ^ 63 - 1)) ∷ shorter out (missingOf start end s) ∷ []
+
+-- `all_ackable_before`, `last_change`, `change_status`, `should_ignore_change` and the acknack counter have no refusal.
+
 -- ==== The table
 
 pub record RefusalTable : Type 0 where
@@ -159,3 +196,16 @@ pub record RefusalTable : Type 0 where
   pub len-serialized : MeasureSet sequence × MeasureSet fragment
   pub from-base-and-set : MakeSet sequence sequenceSetMade (λ r. r .refusal) × MakeSet fragment fragmentSetMade (λ r. r .refusal)
   pub iter : WalkSet sequence PastSequence × WalkSet fragment PastFragment
+  -- writer_proxy; w is the lent record
+  pub proxy-set-up : (w w′ : List ℕ) (r : Report) → (r ≡ setUp w .report) × (w′ ≡ setUp w .words) → Refuses (reported r) (shorter w (recordOf begun) ∷ []) w w′
+  pub received-changes-add : (w w′ : List ℕ) (n : ℤ) (time : ℕ) (r : Report) → Good w → SFits w64 n → Answered r w′ (received n time (stateOf w))
+      → Refuses (reported r) (notTaken n ∷ []) w w′
+  pub set-irrelevant-change : (w w′ : List ℕ) (n : ℤ) (r : Report) → Good w → SFits w64 n → Answered r w′ (irrelevant n (stateOf w))
+      → Refuses (reported r) (notTaken n ∷ []) w w′
+  pub irrelevant-changes-range : (w w′ : List ℕ) (a b : ℤ) (r : Report) → Good w → Answered r w′ (irrelevantRange a b (stateOf w))
+      → Refuses (reported r) (rangeRows a b) w w′
+  pub irrelevant-changes-up-to : (w w′ : List ℕ) (n : ℤ) (r : Report) → Good w → Answered r w′ (upTo n (stateOf w))
+      → Refuses (reported r) (rangeRows (pos 0) n) w w′
+  pub missing-seqnums : (w : List ℕ) (start end : ℤ) (out after : List ℤ) (r : Listing) → Good w
+      → (r ≡ listed start end (stateOf w) out .answer) × (after ≡ listed start end (stateOf w) out .output)
+      → Refuses (listing r) (missingRows start end (stateOf w) out) out after
