@@ -1,4 +1,5 @@
 pub mod RowLaws
 pub mod SetRows
 pub mod ProxyRows
+pub mod ReplayRows
 pub mod TableProof

@@ -53,24 +53,32 @@ module _ (w w′ : List ℕ) (g : Good w) (x : Reply) (r : Report) (a : Answered
   kept : ((n : ℕ) → x .report ≡ Report.Refused n → x .state ≡ stateOf w) → (n : ℕ) → reported r ≡ refused n → w′ ≡ w
   kept same n e = a .1 ∙ ap recordOf (same n (sym (a .0) ∙ said-refused r n e)) ∙ sym (g .made)
 
--- ---- numbers that a call takes
+-- ---- tests
 
 test-true : (b : Bool) → T b → b ≡ true
 test-true true t = refl
 test-true false t = absurd t
 
+pub clash : (b : Bool) → b ≡ true → b ≡ false → ⊥
+clash true e f = let z : _≡_ {A = ℕ} 0 1 = cc in omega arith
+clash false e f = let z : _≡_ {A = ℕ} 0 1 = cc in omega arith
+
+pub below-holds : (a b : ℤ) → ltZ a b ≡ true → a <ℤ b
+below-holds a b e = ltZ-yes (subst T (sym e) tt)
+
+pub below-fails : (a b : ℤ) → ltZ a b ≡ false → a <ℤ b → ⊥
+below-fails a b e h = clash (ltZ a b) (test-true (ltZ a b) (h .lt)) e
+
+-- ---- numbers that a call takes
+
 abbrev Names : ℤ → Type 0
 Names n = (n <ℤ pos 1) ⊎ (n ≡ pos (2 ^ 63 - 1))
 
 names : (n : ℤ) → NotTaken n → Names n
-names n = ⊎-elim (λ e. inl (ltZ-yes (subst T (sym e) tt))) (λ e. inr e)
+names n = ⊎-elim (λ e. inl (below-holds n (pos 1) e)) (λ e. inr e)
 
 named : (n : ℤ) → Names n → NotTaken n
 named n = ⊎-elim (λ h. inl (test-true (ltZ n (pos 1)) (h .lt))) (λ e. inr e)
-
-clash : (b : Bool) → b ≡ true → b ≡ false → ⊥
-clash true e f = let z : _≡_ {A = ℕ} 0 1 = cc in omega arith
-clash false e f = let z : _≡_ {A = ℕ} 0 1 = cc in omega arith
 
 module _ (n : ℤ) (f : SFits w64 n) where
   pub row-holds : isNumber n ≡ false → Names n
@@ -80,7 +88,7 @@ module _ (n : ℤ) (f : SFits w64 n) where
   row-fails e h = clash (isNumber n) e (not-taken n f .1 (named n h))
 
 module _ (w w′ : List ℕ) (n : ℤ) (r : Report) (g : Good w) (f : SFits w64 n) where
-  pub add-rows : (time : ℕ) → Answered r w′ (received n time (stateOf w)) → Refuses (reported r) (notTaken n ∷ []) w w′
+  pub add-rows : (time : ℕ) → Answered r w′ (received n time (stateOf w)) → Refuses (reported r) (notTaken n ∷ []) (w′ ≡ w)
   unfolding received
   add-rows time a =
       record {
@@ -91,7 +99,7 @@ module _ (w w′ : List ℕ) (n : ℤ) (r : Report) (g : Good w) (f : SFits w64 
         untouched = kept w w′ g (received n time (stateOf w)) r a (received-refused-same n f (stateOf w) time);
       }
 
-  pub irrelevant-rows : Answered r w′ (irrelevant n (stateOf w)) → Refuses (reported r) (notTaken n ∷ []) w w′
+  pub irrelevant-rows : Answered r w′ (irrelevant n (stateOf w)) → Refuses (reported r) (notTaken n ∷ []) (w′ ≡ w)
   unfolding irrelevant
   irrelevant-rows a =
       record {
@@ -102,13 +110,13 @@ module _ (w w′ : List ℕ) (n : ℤ) (r : Report) (g : Good w) (f : SFits w64 
         untouched = kept w w′ g (irrelevant n (stateOf w)) r a (irrelevant-refused-same n f (stateOf w));
       }
 
-pub range-rows : (w w′ : List ℕ) (a b : ℤ) (r : Report) → Good w → Answered r w′ (irrelevantRange a b (stateOf w)) → Refuses (reported r) (rangeRows a b) w w′
+pub range-rows : (w w′ : List ℕ) (a b : ℤ) (r : Report) → Good w → Answered r w′ (irrelevantRange a b (stateOf w)) → Refuses (reported r) (rangeRows a b) (w′ ≡ w)
 unfolding irrelevantRange
 range-rows w w′ a b r g h =
     record {
       exactly =
           rw (h .0)
-          (asks replied refl (ltZ b a) (λ e. ltZ-yes (subst T (sym e) tt)) (λ e l. clash (ltZ b a) (test-true (ltZ b a) (l .lt)) e)
+          (asks replied refl (ltZ b a) (below-holds b a) (below-fails b a)
           (λ e. ends (rangeAt (natOf a) (natOf b) (stateOf w)) (range-accepted (natOf a) (natOf b) (stateOf w))));
       untouched = kept w w′ g (irrelevantRange a b (stateOf w)) r h (range-refused-same a b (stateOf w));
     }
@@ -120,7 +128,7 @@ listing-refused (Listing.Listed m) n e = absurd (not-refused n e)
 listing-refused (Listing.Refused m) n e = cc
 
 module _ (start end : ℤ) (s : State) (out after : List ℤ) (r : Listing) where
-  pub missing-rows : (r ≡ listed start end s out .answer) × (after ≡ listed start end s out .output) → Refuses (listing r) (missingRows start end s out) out after
+  pub missing-rows : (r ≡ listed start end s out .answer) × (after ≡ listed start end s out .output) → Refuses (listing r) (missingRows start end s out) (after ≡ out)
   unfolding listed
   missing-rows a =
       let says : Outcome → Verdict = λ x. listing (x .answer) in
@@ -136,7 +144,7 @@ module _ (start end : ℤ) (s : State) (out after : List ℤ) (r : Listing) wher
 
 -- ---- set-up
 
-pub set-up-rows : (w w′ : List ℕ) (r : Report) → (r ≡ setUp w .report) × (w′ ≡ setUp w .words) → Refuses (reported r) (shorter w (recordOf begun) ∷ []) w w′
+pub set-up-rows : (w w′ : List ℕ) (r : Report) → (r ≡ setUp w .report) × (w′ ≡ setUp w .words) → Refuses (reported r) (shorter w (recordOf begun) ∷ []) (w′ ≡ w)
 unfolding setUp
 set-up-rows w w′ r a =
     let says : Begun → Verdict = λ x. reported (x .report) in

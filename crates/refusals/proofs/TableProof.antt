@@ -12,6 +12,7 @@ use Rattle.sequence_number.proofs.KindLaws.{sequence-lawful, fragment-lawful}
 use Rattle.refusals.specs.RefusalTable.{RefusalTable, PastSequence, PastFragment}
 use Rattle.proxy_record.specs.Record.{stateOf}
 use Rattle.refusals.proofs.ProxyRows.{add-rows, irrelevant-rows, range-rows, missing-rows, set-up-rows}
+use Rattle.refusals.proofs.ReplayRows.{parse-rows, answer-rows, line-rows, feed-rows}
 use Rattle.refusals.proofs.SetRows.{number-read, number-written, set-read, set-written, set-measured, set-made, set-walked, sequence-over, sequence-within, fragment-over, fragment-within}
 
 -- the answers that hold a set have the refusal's number
@@ -49,4 +50,8 @@ refusal-table =
       irrelevant-changes-range = range-rows;
       irrelevant-changes-up-to = λ w w′. range-rows w w′ (pos 0);
       missing-seqnums = λ w start end out after r g. missing-rows start end (stateOf w) out after r;
+      parse = parse-rows;
+      answer-line = answer-rows;
+      answer-line-says = line-rows;
+      feed = λ w w′ list list′ held held′ count piece out out′ r g. feed-rows w w′ list list′ held held′ count piece out out′ r;
     }

@@ -6,13 +6,14 @@ use mathlib.Core.Path.{_≡_}
 use mathlib.Core.Bool.{Bool, true}
 use mathlib.Core.Logic.{_⊎_, _↔_}
 use mathlib.Core.List.{List, [], _∷_, List·Memᴰ}
-use lib.ListN.{length, getD}
+use lib.ListN.{length, getD, take}
 use lib.IntN.{ℤ, pos}
 use lib.Signed.{_≤ℤ_, _<ℤ_}
 use mir.Syntax.{w64}
 use mir.Val.{SFits}
 use Rattle.sequence_number.specs.Outcome.{Outcome}
 use Rattle.sequence_number.specs.Outcome as outcome
+use Rattle.sequence_number.specs.Lent.{over}
 use Rattle.sequence_number.specs.Kind.{Kind, sequence, fragment}
 use Rattle.sequence_number.specs.Word.{wordAt}
 use Rattle.sequence_number.specs.NumberWire.{readSequence, readFragment, wrote, readNumber, Writes}
@@ -26,13 +27,24 @@ use Rattle.sequence_number.specs.declared.set.Measured.{Measured}
 use Rattle.sequence_number.specs.declared.set.Walked.{Walked}
 use Rattle.proxy_record.specs.State.{State, begun}
 use Rattle.proxy_record.specs.Record.{recordOf, stateOf, Good}
-use Rattle.proxy_core.specs.Calls.{received, irrelevant, irrelevantRange, upTo, Answered}
+use Rattle.proxy_core.specs.Calls.{received, irrelevant, irrelevantRange, upTo}
+use Rattle.proxy_core.specs.Calls as proxy
 use Rattle.proxy_core.specs.declared.Report.{Report}
 use Rattle.proxy_core.specs.declared.Report.the-variants as Report
 use Rattle.writer_proxy.specs.SetUp.{setUp}
 use Rattle.writer_proxy.specs.Missing.{missingOf, listed}
 use Rattle.writer_proxy.specs.declared.missing.Listing.{Listing}
 use Rattle.writer_proxy.specs.declared.missing.Listing.the-variants as Listing
+use Rattle.replay_lines.specs.Hex.{valueAt}
+use Rattle.replay_lines.specs.Frame.{parsed}
+use Rattle.replay_lines.specs.Decimal.{lineOf}
+use Rattle.replay_lines.specs.Answer.{answered, Answered}
+use Rattle.replay_lines.specs.Feed.{fed, runOf, Fed-to}
+use Rattle.replay_lines.specs.declared.frame.Frame.the-variants.{Received, Range, Missing}
+use Rattle.replay_lines.specs.declared.frame.Parsed.{Parsed}
+use Rattle.replay_lines.specs.declared.frame.Parsed.the-variants.{Malformed, Reads}
+use Rattle.replay_lines.specs.declared.feed.Fed.{Fed}
+use Rattle.replay_lines.specs.declared.feed.Fed.the-variants as Fed
 
 -- ==== A row, and what the table says of a call
 
@@ -63,10 +75,10 @@ pub record Exactly (v : Verdict) (rows : List Row) : Type 0 where
   pub refused-with : (n : ℕ) → (v ≡ refused n) ↔ GivenBy n rows
   pub otherwise : (v ≡ accepted) ↔ NoneHolds rows
 
--- and "Every refusal .. leaves state, area and output untouched": what a call may write, before it and after it
-pub record Refuses {A : Type 0} (v : Verdict) (rows : List Row) (before after : A) : Type 0 where
+-- and "Every refusal .. leaves state, area and output untouched": all that the call may write is after it as it was before
+pub record Refuses (v : Verdict) (rows : List Row) (Untouched : Type 0) : Type 0 where
   pub exactly : Exactly v rows
-  pub untouched : (n : ℕ) → v ≡ refused n → after ≡ before
+  pub untouched : (n : ℕ) → v ≡ refused n → Untouched
 
 -- 3: "lent output shorter than the answer (added)"
 abbrev pub shorter : {A B : Type 0} → List A → List B → Row
@@ -97,7 +109,7 @@ writeNumberRows k o n out = shorter out (k .numberBytes o n) ∷ []
 
 abbrev pub WriteNumber : Kind → Type 0
 WriteNumber k = (o : ByteOrder) (n : k .Number) (out after : List ℕ) (r : Written) → Writes k o n out r after
-    → Refuses (verdict (wrote r)) (writeNumberRows k o n out) out after
+    → Refuses (verdict (wrote r)) (writeNumberRows k o n out) (after ≡ out)
 
 -- "Set reading: 1 for base or count, 2, 1 for words"; 1: "set bytes end early", 2: "bit count above 256"
 abbrev pub readSetRows : Kind → ByteOrder → List ℕ → List Row
@@ -120,7 +132,7 @@ walkRows k Past s out =
 
 abbrev pub WalkSet : (k : Kind) → (k .Number → Type 0) → Type 0
 WalkSet k Past = (s : NumberSet (k .Number)) (up : Bool) (out after : List (k .Number)) (r : Walked) → Walks k s up out r after
-    → Refuses (verdict (walked r)) (walkRows k Past s out) out after
+    → Refuses (verdict (walked r)) (walkRows k Past s out) (after ≡ out)
 
 abbrev pub PastSequence : ℤ → Type 0
 PastSequence m = pos (2 ^ 63) ≤ℤ m
@@ -134,7 +146,7 @@ writeSetRows k o s out = row 2 (256 < s .count) ∷ shorter out (setBytes k o s)
 
 abbrev pub WriteSet : Kind → Type 0
 WriteSet k = (o : ByteOrder) (s : NumberSet (k .Number)) (out after : List ℕ) (r : Written) → WritesSet k o s out r after
-    → Refuses (verdict (wrote r)) (writeSetRows k o s out) out after
+    → Refuses (verdict (wrote r)) (writeSetRows k o s out) (after ≡ out)
 
 -- "measured: 2"
 abbrev pub measureSetRows : (k : Kind) → NumberSet (k .Number) → List Row
@@ -182,6 +194,65 @@ missingRows start end s out = row 4 (end ≡ pos (2 ^ 63 - 1)) ∷ shorter out (
 
 -- `all_ackable_before`, `last_change`, `change_status`, `should_ignore_change` and the acknack counter have no refusal.
 
+-- ==== Replay lines (crate replay_lines)
+
+-- what the answers say
+abbrev pub readAs : Parsed → Verdict
+readAs Malformed = refused 1
+readAs (Reads frame) = accepted
+
+abbrev pub fedAs : Fed → Verdict
+fedAs (Fed.Refused n) = refused n
+fedAs (Fed.Took taken count wrote) = accepted
+
+-- a hexadecimal digit "of either case": `0` to `9`, `A` to `F`, `a` to `f`
+abbrev pub Digit : ℕ → Type 0
+Digit c = ((48 ≤ c) × (c ≤ 57)) ⊎ ((65 ≤ c) × (c ≤ 70)) ⊎ ((97 ≤ c) × (c ≤ 102))
+
+-- "one frame a line, 34 digits", and the kind, which the first two write, is 01, 02 or 03
+pub record WellFormed (line : List ℕ) : Type 0 where
+  pub long : length line ≡ 34
+  pub digits : (i : ℕ) → i < 34 → Digit (getD line i 0)
+  pub low : 1 ≤ valueAt line 0 2
+  pub high : valueAt line 0 2 ≤ 3
+
+-- 1: "a replay line is malformed"
+abbrev pub malformed : List ℕ → Row
+malformed line = row 1 (WellFormed line → ⊥)
+
+-- the rows of the call that a line asks for: "01 received (number, time), 02 range (a, b), 03 missing (start, end; room 256)"
+abbrev pub frameRows : Parsed → State → List ℤ → List Row
+frameRows Malformed s list = []
+frameRows (Reads (Received number time)) s list = notTaken number ∷ []
+frameRows (Reads (Range a b)) s list = rangeRows a b
+frameRows (Reads (Missing start end)) s list = missingRows start end s (take 256 list)
+
+abbrev pub lineRows : List ℕ → State → List ℤ → List Row
+lineRows line s list = malformed line ∷ frameRows (parsed line) s list
+
+-- The answer to a line: "Each line gives kind, refusal or 0, ack base", and the refusal in it is by the line's rows. A refused line leaves the proxy and
+-- the list.
+pub record AnswerLine (rows : List Row) (r : Written) (out out′ : List ℕ) (Untouched : Type 0) : Type 0 where
+  pub kind : ℕ
+  pub number : ℕ
+  pub rest : List ℕ
+  pub line : out′ ≡ over (lineOf kind (number ∷ rest)) out
+  pub count : wrote r ≡ outcome.done (length (lineOf kind (number ∷ rest)))
+  pub refuses : Refuses (numbered number) rows Untouched
+
+-- 3, of the call itself: the list is below 256 entries, or the buffer might not hold an answer, which has at most 5,148 bytes
+abbrev pub answerRows : List ℤ → List ℕ → List Row
+answerRows list out = row 3 (length list < 256) ∷ row 3 (length out < 5148) ∷ []
+
+-- and, of a piece of input, fewer than 35 bytes to hold a line in, or more said to be held
+abbrev pub feedRows : List ℤ → List ℕ → ℕ → List ℕ → List Row
+feedRows list held count out =
+    row 3 (length list < 256)
+    ∷ row 3 (length held < 35)
+    ∷ row 3 (35 < count)
+    ∷ row 3 (length out < 5148)
+    ∷ []
+
 -- ==== The table
 
 pub record RefusalTable : Type 0 where
@@ -197,15 +268,25 @@ pub record RefusalTable : Type 0 where
   pub from-base-and-set : MakeSet sequence sequenceSetMade (λ r. r .refusal) × MakeSet fragment fragmentSetMade (λ r. r .refusal)
   pub iter : WalkSet sequence PastSequence × WalkSet fragment PastFragment
   -- writer_proxy; w is the lent record
-  pub proxy-set-up : (w w′ : List ℕ) (r : Report) → (r ≡ setUp w .report) × (w′ ≡ setUp w .words) → Refuses (reported r) (shorter w (recordOf begun) ∷ []) w w′
-  pub received-changes-add : (w w′ : List ℕ) (n : ℤ) (time : ℕ) (r : Report) → Good w → SFits w64 n → Answered r w′ (received n time (stateOf w))
-      → Refuses (reported r) (notTaken n ∷ []) w w′
-  pub set-irrelevant-change : (w w′ : List ℕ) (n : ℤ) (r : Report) → Good w → SFits w64 n → Answered r w′ (irrelevant n (stateOf w))
-      → Refuses (reported r) (notTaken n ∷ []) w w′
-  pub irrelevant-changes-range : (w w′ : List ℕ) (a b : ℤ) (r : Report) → Good w → Answered r w′ (irrelevantRange a b (stateOf w))
-      → Refuses (reported r) (rangeRows a b) w w′
-  pub irrelevant-changes-up-to : (w w′ : List ℕ) (n : ℤ) (r : Report) → Good w → Answered r w′ (upTo n (stateOf w))
-      → Refuses (reported r) (rangeRows (pos 0) n) w w′
+  pub proxy-set-up : (w w′ : List ℕ) (r : Report) → (r ≡ setUp w .report) × (w′ ≡ setUp w .words) → Refuses (reported r) (shorter w (recordOf begun) ∷ []) (w′ ≡ w)
+  pub received-changes-add : (w w′ : List ℕ) (n : ℤ) (time : ℕ) (r : Report) → Good w → SFits w64 n → proxy.Answered r w′ (received n time (stateOf w))
+      → Refuses (reported r) (notTaken n ∷ []) (w′ ≡ w)
+  pub set-irrelevant-change : (w w′ : List ℕ) (n : ℤ) (r : Report) → Good w → SFits w64 n → proxy.Answered r w′ (irrelevant n (stateOf w))
+      → Refuses (reported r) (notTaken n ∷ []) (w′ ≡ w)
+  pub irrelevant-changes-range : (w w′ : List ℕ) (a b : ℤ) (r : Report) → Good w → proxy.Answered r w′ (irrelevantRange a b (stateOf w))
+      → Refuses (reported r) (rangeRows a b) (w′ ≡ w)
+  pub irrelevant-changes-up-to : (w w′ : List ℕ) (n : ℤ) (r : Report) → Good w → proxy.Answered r w′ (upTo n (stateOf w))
+      → Refuses (reported r) (rangeRows (pos 0) n) (w′ ≡ w)
   pub missing-seqnums : (w : List ℕ) (start end : ℤ) (out after : List ℤ) (r : Listing) → Good w
       → (r ≡ listed start end (stateOf w) out .answer) × (after ≡ listed start end (stateOf w) out .output)
-      → Refuses (listing r) (missingRows start end (stateOf w) out) out after
+      → Refuses (listing r) (missingRows start end (stateOf w) out) (after ≡ out)
+  -- replay_lines: the proxy's record w, the lent list and the buffer; a line stands without its line feed
+  pub parse : (line : List ℕ) (r : Parsed) → r ≡ parsed line → Exactly (readAs r) (malformed line ∷ [])
+  pub answer-line : (w w′ line : List ℕ) (list list′ : List ℤ) (out out′ : List ℕ) (r : Written) → Good w
+      → Answered r w′ list′ out′ (answered w line list out) → Refuses (verdict (wrote r)) (answerRows list out) ((w′ ≡ w) × (list′ ≡ list) × (out′ ≡ out))
+  pub answer-line-says : (w w′ line : List ℕ) (list list′ : List ℤ) (out out′ : List ℕ) (r : Written) → Good w
+      → Answered r w′ list′ out′ (answered w line list out) → verdict (wrote r) ≡ accepted
+      → AnswerLine (lineRows line (stateOf w) list) r out out′ ((w′ ≡ w) × (list′ ≡ list))
+  pub feed : (w w′ : List ℕ) (list list′ : List ℤ) (held held′ : List ℕ) (count : ℕ) (piece out out′ : List ℕ) (r : Fed) → Good w
+      → Fed-to r w′ list′ held′ out′ (fed (runOf w list held count) piece out)
+      → Refuses (fedAs r) (feedRows list held count out) ((w′ ≡ w) × (list′ ≡ list) × (held′ ≡ held) × (out′ ≡ out))
