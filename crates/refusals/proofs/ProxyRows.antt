@@ -28,7 +28,7 @@ use Rattle.writer_proxy.specs.declared.missing.Listing.the-variants as Listing
 use Rattle.writer_proxy.proofs.Refusals.{not-taken, received-accepted, irrelevant-accepted, range-accepted, end-top}
 use Rattle.writer_proxy.proofs.Promises.{received-refused-same, irrelevant-refused-same, range-refused-same, missing-refused-same, set-up-refused-same}
 use Rattle.refusals.specs.RefusalTable.{Verdict, accepted, refused, Exactly, Refuses, RefusalTable, reported, listing, notTaken, rangeRows, missingRows, shorter}
-use Rattle.refusals.proofs.RowLaws.{none-left, asks, asks-not, asks-less, not-refused}
+use Rattle.refusals.proofs.RowLaws.{none-left, asks, asks-not, asks-less, not-refused, clash}
 
 -- what an answer says, and the answer
 said-refused : (r : Report) (n : ℕ) → reported r ≡ refused n → r ≡ Report.Refused n
@@ -58,10 +58,6 @@ module _ (w w′ : List ℕ) (g : Good w) (x : Reply) (r : Report) (a : Answered
 test-true : (b : Bool) → T b → b ≡ true
 test-true true t = refl
 test-true false t = absurd t
-
-pub clash : (b : Bool) → b ≡ true → b ≡ false → ⊥
-clash true e f = let z : _≡_ {A = ℕ} 0 1 = cc in omega arith
-clash false e f = let z : _≡_ {A = ℕ} 0 1 = cc in omega arith
 
 pub below-holds : (a b : ℤ) → ltZ a b ≡ true → a <ℤ b
 below-holds a b e = ltZ-yes (subst T (sym e) tt)

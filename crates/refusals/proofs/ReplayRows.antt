@@ -46,7 +46,7 @@ use Rattle.replay_lines.proofs.HexLaws.{digit-low, digit-decimal, digit-between
 use Rattle.replay_lines.proofs.FrameLaws.{parsed-length, parsed-digit, parsed-frame, frame-other, frame-received, frame-range, frame-missing}
 use Rattle.refusals.specs.RefusalTable.{Row, Verdict, accepted, refused, Exactly, Refuses, verdict, numbered, readAs, fedAs, Digit, WellFormed, malformed, frameRows, lineRows, AnswerLine, answerRows, feedRows, notTaken, rangeRows, missingRows}
 use Rattle.refusals.proofs.RowLaws.{none-left, holds, passes, asks, asks-not, asks-less, not-refused}
-use Rattle.refusals.proofs.ProxyRows.{row-holds, row-fails, below-holds, below-fails, clash}
+use Rattle.refusals.proofs.ProxyRows.{row-holds, row-fails, below-holds, below-fails}
 
 -- ---- which lines read
 

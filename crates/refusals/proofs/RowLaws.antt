@@ -2,7 +2,7 @@
 use Prim.Native.Nat.{ℕ, zero, suc, _<_, _≤_}
 use native.Mathlib.Omega.{arith}
 use mathlib.Core.Path.{_≡_, refl, sym, _∙_}
-use mathlib.Core.Bool.{Bool, true, false, cond}
+use mathlib.Core.Bool.{Bool, true, false, cond, _&&_, _||_}
 use mathlib.Core.Logic.{inl, inr, ⊎-elim}
 use mathlib.Core.List.{List, [], _∷_}
 use lib.Dec.{ltb}
@@ -10,6 +10,22 @@ use borrow.Author.Tests.{ltb-true, ltb-false}
 use Rattle.sequence_number.specs.Outcome.{Outcome, left}
 use Rattle.sequence_number.specs.Outcome as outcome
 use Rattle.refusals.specs.RefusalTable.{Row, row, GivenBy, NoneHolds, Verdict, accepted, refused, Exactly, verdict, numbered}
+
+-- ---- tests
+
+pub clash : (b : Bool) → b ≡ true → b ≡ false → ⊥
+clash true e f = let z : _≡_ {A = ℕ} 0 1 = cc in omega arith
+clash false e f = let z : _≡_ {A = ℕ} 0 1 = cc in omega arith
+
+pub and-true : (a b : Bool) → (a && b) ≡ true → (a ≡ true) × (b ≡ true)
+and-true true b e = (refl, e)
+and-true false b e = let z : _≡_ {A = ℕ} 0 1 = cc in absurd (omega arith)
+
+pub or-false : (a b : Bool) → a || b ≡ false → (a ≡ false) × (b ≡ false)
+or-false true b e = absurd (clash true refl e)
+or-false false b e = (refl, e)
+
+-- ---- rows
 
 pub not-refused : (n : ℕ) → accepted ≡ refused n → ⊥
 not-refused n e = let z : _≡_ {A = ℕ} 0 1 = cc in omega arith

@@ -25,7 +25,7 @@ use Rattle.sequence_number.proofs.Split.{split, split-lt}
 use Rattle.sequence_number.proofs.KindLaws.{Lawful}
 use Rattle.sequence_number.proofs.SetWireLaws.{length-set-bytes}
 use Rattle.refusals.specs.RefusalTable.{Verdict, Exactly, verdict, numbered, ReadNumber, WriteNumber, ReadSet, WalkSet, WriteSet, MeasureSet, MakeSet, readNumberRows, writeNumberRows, readSetRows, walkRows, writeSetRows, measureSetRows, makeSetRows, StrictlyRising, PastSequence, PastFragment}
-use Rattle.refusals.proofs.RowLaws.{none-left, asks, asks-not, asks-less, left-refused}
+use Rattle.refusals.proofs.RowLaws.{none-left, asks, asks-not, asks-less, left-refused, clash, and-true}
 
 module _ (k : Kind) where
   pub number-read : {R : Type 0} (said : R → Outcome (k .Number)) → ReadNumber k said
@@ -52,10 +52,6 @@ module _ (k : Kind) (law : Lawful k) where
       }
 
 -- ---- rising lists
-
-and-true : (a b : Bool) → (a && b) ≡ true → (a ≡ true) × (b ≡ true)
-and-true true b e = (refl, e)
-and-true false b e = let z : _≡_ {A = ℕ} 0 1 = cc in absurd (omega arith)
 
 module _ {A : Type 0} (below : A → A → Bool) (d : A) (xs : List A) where
   -- the test over the first n elements, and each of its steps

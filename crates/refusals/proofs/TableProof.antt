@@ -12,6 +12,8 @@ use Rattle.sequence_number.proofs.KindLaws.{sequence-lawful, fragment-lawful}
 use Rattle.refusals.specs.RefusalTable.{RefusalTable, PastSequence, PastFragment}
 use Rattle.proxy_record.specs.Record.{stateOf}
 use Rattle.refusals.proofs.ProxyRows.{add-rows, irrelevant-rows, range-rows, missing-rows, set-up-rows}
+use Rattle.refusals.proofs.AssemblerRows as assembler
+use Rattle.refusals.proofs.AssemblerRows.{fragment-rows, clean-rows}
 use Rattle.refusals.proofs.ReplayRows.{parse-rows, answer-rows, line-rows, feed-rows}
 use Rattle.refusals.proofs.SetRows.{number-read, number-written, set-read, set-written, set-measured, set-made, set-walked, sequence-over, sequence-within, fragment-over, fragment-within}
 
@@ -50,6 +52,10 @@ refusal-table =
       irrelevant-changes-range = range-rows;
       irrelevant-changes-up-to = λ w w′. range-rows w w′ (pos 0);
       missing-seqnums = λ w start end out after r g. missing-rows start end (stateOf w) out after r;
+      assembler-set-up = λ w w′ f reliable p. assembler.set-up-rows f reliable p w w′;
+      new-datafrag = fragment-rows;
+      garbage-collect-before = clean-rows;
+      missing-frags-for = assembler.missing-rows;
       parse = parse-rows;
       answer-line = answer-rows;
       answer-line-says = line-rows;

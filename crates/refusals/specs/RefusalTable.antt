@@ -1,9 +1,9 @@
 -- Document 01's table of refusals as theorems: one file to hold beside the paper. First what a row is and what the table says of a call, then the rows
 -- of each call in the paper's order and words, then `RefusalTable`: for each public call that can be refused, what follows from its promise. The proof
 -- is `refusal-table` of `proofs/TableProof.antt`. Assumes nothing.
-use Prim.Native.Nat.{ℕ, zero, suc, _+_, _-_, _<_, _≤_, _^_}
+use Prim.Native.Nat.{ℕ, zero, suc, _+_, _-_, _*_, _<_, _≤_, _^_}
 use mathlib.Core.Path.{_≡_}
-use mathlib.Core.Bool.{Bool, true}
+use mathlib.Core.Bool.{Bool, true, false, cond}
 use mathlib.Core.Logic.{_⊎_, _↔_}
 use mathlib.Core.List.{List, [], _∷_, List·Memᴰ}
 use lib.ListN.{length, getD, take}
@@ -14,6 +14,7 @@ use mir.Val.{SFits}
 use Rattle.sequence_number.specs.Outcome.{Outcome}
 use Rattle.sequence_number.specs.Outcome as outcome
 use Rattle.sequence_number.specs.Lent.{over}
+use Rattle.sequence_number.specs.Number.{numberOf}
 use Rattle.sequence_number.specs.Kind.{Kind, sequence, fragment}
 use Rattle.sequence_number.specs.Word.{wordAt}
 use Rattle.sequence_number.specs.NumberWire.{readSequence, readFragment, wrote, readNumber, Writes}
@@ -35,6 +36,21 @@ use Rattle.writer_proxy.specs.SetUp.{setUp}
 use Rattle.writer_proxy.specs.Missing.{missingOf, listed}
 use Rattle.writer_proxy.specs.declared.missing.Listing.{Listing}
 use Rattle.writer_proxy.specs.declared.missing.Listing.the-variants as Listing
+use Rattle.fragment_assembler.specs.State.{Assembler, at}
+use Rattle.fragment_assembler.specs.Table.{find, inAssembly}
+use Rattle.fragment_assembler.specs.Fragments.{fragments}
+use Rattle.fragment_assembler.specs.Refusal.{callOf}
+use Rattle.fragment_assembler.specs.Call.{fateOf}
+use Rattle.fragment_assembler.specs.SetUp.{startedOf, empty}
+use Rattle.fragment_assembler.specs.Clean.{cleanedOf, staleNumbers}
+use Rattle.fragment_assembler.specs.Missing.{listedOf, missing}
+use Rattle.fragment_assembler.specs.Promise.{SetsUp, Does, Cleans, Misses}
+use Rattle.fragment_assembler.specs.Words as assembler
+use Rattle.fragment_assembler.specs.Rules as assembler-rules
+use Rattle.fragment_assembler.specs.declared.Start.{Start}
+use Rattle.fragment_assembler.specs.declared.Answer.{Answer}
+use Rattle.fragment_assembler.specs.declared.Cleaned.{Cleaned}
+use Rattle.fragment_assembler.specs.declared.Listing as assembler-listing
 use Rattle.replay_lines.specs.Hex.{valueAt}
 use Rattle.replay_lines.specs.Frame.{parsed}
 use Rattle.replay_lines.specs.Decimal.{lineOf}
@@ -194,6 +210,44 @@ missingRows start end s out = row 4 (end ≡ pos (2 ^ 63 - 1)) ∷ shorter out (
 
 -- `all_ackable_before`, `last_change`, `change_status`, `should_ignore_change` and the acknack counter have no refusal.
 
+-- ==== The assembler (crate fragment_assembler): f is `unit`, p is `room`; a fragment has its own size, the data size D, start k and n fragments
+
+-- "setting up: f is 0, or p is 0 or above 65,536 (added)", then the record's words
+abbrev pub setUpRows : ℕ → Bool → ℕ → List ℕ → List Row
+setUpRows f reliable p w = row 14 ((f ≡ 0) ⊎ (p ≡ 0) ⊎ (65536 < p)) ∷ shorter w (assembler.recordOf (empty f reliable p)) ∷ []
+
+-- "opening": the number is not in assembly, as the query says
+abbrev pub Opening : Assembler → ℤ → Type 0
+Opening a number = inAssembly (a .places) (numberOf number) ≡ false
+
+-- "D and F are those of the opening fragment; a later fragment's data size is not looked at"
+abbrev pub sampleSize : Assembler → ℤ → ℕ → ℕ
+sampleSize a number D = cond (inAssembly (a .places) (numberOf number)) (at (a .places) (find (numberOf number) (a .places)) .size) D
+
+-- "Order: fragment 13, 4, 6, 7, 8, 9, 10, 11, 12"
+abbrev pub fragmentRows : Assembler → List ℕ → ℤ → ℕ → ℕ → ℕ → ℕ → List Row
+fragmentRows a area number size D k n =
+    -- "area shorter than 129*p (added)"
+    row 13 (length area < 129 * a .room)
+    ∷ notTaken number
+    -- "fragment's size differs from f (added)"
+    ∷ row 6 (size ≡ a .unit → ⊥)
+    -- "opening, f > D"
+    ∷ row 7 (Opening a number × (D < a .unit))
+    -- "opening, D > p (added)"
+    ∷ row 8 (Opening a number × (a .room < D))
+    -- "opening, F > 256 (added)"
+    ∷ row 9 (Opening a number × (256 < fragments D (a .unit)))
+    -- "run of 0 fragments"
+    ∷ row 10 (n ≡ 0)
+    -- "start 0"
+    ∷ row 11 (k ≡ 0)
+    -- "k - 1 + n > F"
+    ∷ row 12 (fragments (sampleSize a number D) (a .unit) < k - 1 + n)
+    ∷ []
+
+-- `view`, `is_partially_received` and `in_assembly` have no refusal.
+
 -- ==== Replay lines (crate replay_lines)
 
 -- what the answers say
@@ -280,6 +334,16 @@ pub record RefusalTable : Type 0 where
   pub missing-seqnums : (w : List ℕ) (start end : ℤ) (out after : List ℤ) (r : Listing) → Good w
       → (r ≡ listed start end (stateOf w) out .answer) × (after ≡ listed start end (stateOf w) out .output)
       → Refuses (listing r) (missingRows start end (stateOf w) out) (after ≡ out)
+  -- fragment_assembler; w is the lent record
+  pub assembler-set-up : (w w′ : List ℕ) (f : ℕ) (reliable : Bool) (p : ℕ) (r : Start) → SetsUp w f reliable p r w′
+      → Refuses (verdict (startedOf r)) (setUpRows f reliable p w) (w′ ≡ w)
+  pub new-datafrag : (w w′ area area′ : List ℕ) (time : ℕ) (number : ℤ) (size D k n : ℕ) (payload : List ℕ) (r : Answer) → assembler-rules.Good w → SFits w64 number
+      → Does w area (callOf time (numberOf number) size D k n payload) r w′ area′
+      → Refuses (verdict (fateOf r)) (fragmentRows (assembler.stateOf w) area number size D k n) ((w′ ≡ w) × (area′ ≡ area))
+  pub garbage-collect-before : (w w′ : List ℕ) (cutoff : ℕ) (out after : List ℤ) (r : Cleaned) → assembler-rules.Good w → Cleans w cutoff out r w′ after
+      → Refuses (verdict (cleanedOf r)) (shorter out (staleNumbers cutoff (assembler.stateOf w .places)) ∷ []) ((w′ ≡ w) × (after ≡ out))
+  pub missing-frags-for : (w : List ℕ) (number : ℤ) (out after : List ℕ) (r : assembler-listing.Listing) → assembler-rules.Good w → Misses w (numberOf number) out r after
+      → Refuses (verdict (listedOf r)) (shorter out (missing (assembler.stateOf w) (numberOf number)) ∷ []) (after ≡ out)
   -- replay_lines: the proxy's record w, the lent list and the buffer; a line stands without its line feed
   pub parse : (line : List ℕ) (r : Parsed) → r ≡ parsed line → Exactly (readAs r) (malformed line ∷ [])
   pub answer-line : (w w′ line : List ℕ) (list list′ : List ℤ) (out out′ : List ℕ) (r : Written) → Good w
