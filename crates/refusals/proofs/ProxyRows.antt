@@ -1,8 +1,7 @@
 -- The rows of the writer proxy's calls. Assumes nothing.
-use Prim.Native.Nat.{ℕ, _-_, _<_, _≤_, _^_}
-use native.Mathlib.Omega.{arith}
+use Prim.Native.Nat.{ℕ, _-_, _^_}
 use mathlib.Core.Path.{_≡_, refl, sym, ap, subst, _∙_}
-use mathlib.Core.Bool.{Bool, true, false, cond}
+use mathlib.Core.Bool.{Bool, true, false}
 use mathlib.Core.Logic.{_⊎_, inl, inr, ⊎-elim}
 use mathlib.Core.List.{List, [], _∷_}
 use lib.ListN.{length}
@@ -16,7 +15,7 @@ use Rattle.sequence_number.specs.Number.{top, isNumber, natOf}
 use Rattle.proxy_record.specs.State.{State, begun}
 use Rattle.proxy_record.specs.Record.{recordOf, stateOf, Good, size}
 use Rattle.proxy_core.proofs.StepLaws.{good-of}
-use Rattle.proxy_core.specs.Calls.{Reply, received, receivedAt, irrelevant, irrelevantAt, irrelevantRange, rangeAt, upTo, Answered}
+use Rattle.proxy_core.specs.Calls.{Reply, received, receivedAt, irrelevant, irrelevantAt, irrelevantRange, rangeAt, Answered}
 use Rattle.proxy_core.specs.declared.Report.{Report}
 use Rattle.proxy_core.specs.declared.Report.the-variants as Report
 use Rattle.proxy_core.proofs.CallsLaws.{ok-begun}
@@ -27,7 +26,7 @@ use Rattle.writer_proxy.specs.declared.missing.Listing.{Listing}
 use Rattle.writer_proxy.specs.declared.missing.Listing.the-variants as Listing
 use Rattle.writer_proxy.proofs.Refusals.{not-taken, received-accepted, irrelevant-accepted, range-accepted, end-top}
 use Rattle.writer_proxy.proofs.Promises.{received-refused-same, irrelevant-refused-same, range-refused-same, missing-refused-same, set-up-refused-same}
-use Rattle.refusals.specs.RefusalTable.{Verdict, accepted, refused, Exactly, Refuses, RefusalTable, reported, listing, notTaken, rangeRows, missingRows, shorter}
+use Rattle.refusals.specs.RefusalTable.{Verdict, accepted, refused, Exactly, Refuses, reported, listing, notTaken, rangeRows, missingRows, shorter}
 use Rattle.refusals.proofs.RowLaws.{none-left, asks, asks-not, asks-less, not-refused, clash}
 
 -- what an answer says, and the answer

@@ -1,23 +1,22 @@
 -- The rows of the replay's calls: which lines are malformed, and which refusal an answer line shows. Assumes nothing.
-use Prim.Native.Nat.{ℕ, zero, suc, _+_, _-_, _<_, _≤_, _^_}
+use Prim.Native.Nat.{ℕ, zero, suc, _+_, _*_, _<_, _≤_, _^_}
 use native.Mathlib.Omega.{arith}
 use mathlib.Core.Path.{_≡_, refl, sym, ap, subst, _∙_}
-use mathlib.Core.Bool.{Bool, true, false, cond, _&&_}
-use mathlib.Core.Logic.{_⊎_, inl, inr, ⊎-elim}
+use mathlib.Core.Bool.{true}
+use mathlib.Core.Logic.{inl, inr, ⊎-elim}
 use mathlib.Core.List.{List, [], _∷_, _++_}
 use lib.ListN.{length, getD, take, drop, take-append-drop}
 use lib.Dec.{ltb, eqb}
-use lib.IntN.{ℤ, pos}
+use lib.IntN.{ℤ}
 use lib.Signed.{ltZ}
 use mir.Syntax.{w64}
 use mir.Val.{SFits, toZ}
 use mir.Facts.{sfits-toZ}
-use borrow.Author.Tests.{eqb-true, eqb-false, eq-eqb, ne-eqb}
+use borrow.Author.Tests.{eqb-true, eqb-false, ne-eqb}
 use Rattle.sequence_number.specs.Lent.{over}
 use Rattle.sequence_number.specs.Number.{top, isNumber, natOf}
 use Rattle.sequence_number.specs.NumberWire.{wrote}
 use Rattle.sequence_number.specs.declared.wire.Written.{Written}
-use Rattle.sequence_number.specs.declared.wire.Written.the-variants as Written
 use Rattle.sequence_number.specs.Outcome as outcome
 use Rattle.sequence_number.proofs.Split.{split, split-lt, split-eq}
 use Rattle.proxy_record.specs.State.{State}
@@ -34,17 +33,16 @@ use Rattle.writer_proxy.proofs.Promises.{received-number, range-number, missing
 use Rattle.replay_lines.specs.Hex.{digitOf, allHex, valueAt}
 use Rattle.replay_lines.specs.Frame.{frameOf, parsed}
 use Rattle.replay_lines.specs.Decimal.{lineOf}
-use Rattle.replay_lines.specs.Answer.{Step, Answer, room, enough, counted, stepOf, textOf, given, answered, Answered}
-use Rattle.replay_lines.specs.Feed.{Run, Outcome, kept, runOf, goOn, begin, fed, Fed-to}
+use Rattle.replay_lines.specs.Answer.{Step, Answer, counted, stepOf, textOf, given, answered, Answered}
+use Rattle.replay_lines.specs.Feed.{Run, Outcome, took, says, runOf, fed, Fed-to}
 use Rattle.replay_lines.specs.declared.frame.Frame.{Frame}
 use Rattle.replay_lines.specs.declared.frame.Frame.the-variants.{Received, Range, Missing}
 use Rattle.replay_lines.specs.declared.frame.Parsed.{Parsed}
 use Rattle.replay_lines.specs.declared.frame.Parsed.the-variants.{Malformed, Reads}
 use Rattle.replay_lines.specs.declared.feed.Fed.{Fed}
-use Rattle.replay_lines.specs.declared.feed.Fed.the-variants as Fed
-use Rattle.replay_lines.proofs.HexLaws.{digit-low, digit-decimal, digit-between, digit-upper, digit-between-cases, digit-lower, digit-high, hex-first, hex-rest, hex-at, value-fits}
+use Rattle.replay_lines.proofs.HexLaws.{digit-low, digit-decimal, digit-between, digit-upper, digit-between-cases, digit-lower, digit-high, hex-at, value-none, value-more, value-fits}
 use Rattle.replay_lines.proofs.FrameLaws.{parsed-length, parsed-digit, parsed-frame, frame-other, frame-received, frame-range, frame-missing}
-use Rattle.refusals.specs.RefusalTable.{Row, Verdict, accepted, refused, Exactly, Refuses, verdict, numbered, readAs, fedAs, Digit, WellFormed, malformed, frameRows, lineRows, AnswerLine, answerRows, feedRows, notTaken, rangeRows, missingRows}
+use Rattle.refusals.specs.RefusalTable.{Row, Verdict, accepted, refused, Exactly, Refuses, verdict, numbered, readAs, fedAs, Digit, WellFormed, malformed, frameRows, lineRows, AnswerLine, answerRows, feedRows}
 use Rattle.refusals.proofs.RowLaws.{none-left, holds, passes, asks, asks-not, asks-less, not-refused}
 use Rattle.refusals.proofs.ProxyRows.{row-holds, row-fails, below-holds, below-fails}
 
@@ -84,6 +82,13 @@ all-digits (c ∷ s) f = rw (ne-eqb (digitOf c) 16 (digit-counts c (f 0 (omega a
 not-both : (frame : Frame) → Malformed ≡ Reads frame → ⊥
 not-both frame e = let z : _≡_ {A = ℕ} 0 1 = cc in omega arith
 
+-- a digit below ten
+digit-small : (c : ℕ) → Digit c → digitOf c < 10 → c ≡ 48 + digitOf c
+digit-small c d h =
+    ⊎-elim (λ k. let e = digit-decimal c (k .0) (k .1) in omega (arith, k .0, k .1))
+    (⊎-elim (λ k. let e = digit-upper c (k .0) (k .1) in omega (arith, k .0, k .1)) (λ k. let e = digit-lower c (k .0) (k .1) in omega (arith, k .0, k .1)))
+    d
+
 module _ (line : List ℕ) where
   abbrev kind : ℕ
   kind = valueAt line 0 2
@@ -103,16 +108,30 @@ module _ (line : List ℕ) where
       (λ l. absurd (not-both frame (parsed-length line l ∙ e)))
       (split-eq (length line) 34)
 
+  kind-digits : kind ≡ digitOf (getD line 0 0) * 16 + digitOf (getD line 1 0)
+  kind-digits = omega (arith, value-none line 0, value-more line 0 0, value-more line 0 1)
+
+  reads-kind : (frame : Frame) → parsed line ≡ Reads frame → (1 ≤ kind) × (kind ≤ 3)
+  reads-kind frame e =
+      let r = reads-digits frame e in
+      let f : frameOf kind first second ≡ Reads frame = parsed-frame line (r .0) (r .1) ∙ e in
+      let other : (kind ≡ 1 → ⊥) → (kind ≡ 2 → ⊥) → (kind ≡ 3 → ⊥) → ⊥ = λ a b c. not-both frame (frame-other kind first second a b c ∙ f) in (
+        ⊎-elim (λ h. absurd (other (λ z. omega arith) (λ z. omega arith) (λ z. omega arith))) (λ h. h) (split-lt kind 1),
+        ⊎-elim (λ h. absurd (other (λ z. omega arith) (λ z. omega arith) (λ z. omega arith))) (λ h. h) (split-lt 3 kind),
+      )
+
   reads-form : (frame : Frame) → parsed line ≡ Reads frame → WellFormed line
   reads-form frame e =
       let r = reads-digits frame e in
-      let f : frameOf kind first second ≡ Reads frame = parsed-frame line (r .0) (r .1) ∙ e in
-      let other : (kind ≡ 1 → ⊥) → (kind ≡ 2 → ⊥) → (kind ≡ 3 → ⊥) → ⊥ = λ a b c. not-both frame (frame-other kind first second a b c ∙ f) in
+      let k = reads-kind frame e in
+      let digit : (i : ℕ) → i < 34 → Digit (getD line i 0) = λ i h. counts-digit (getD line i 0) (hex-at line i (r .1) (omega (arith, r .0))) in
+      let a : getD line 0 0 ≡ 48 + digitOf (getD line 0 0) = digit-small (getD line 0 0) (digit 0 (omega arith)) (omega (arith, kind-digits, k .1)) in
+      let b : getD line 1 0 ≡ 48 + digitOf (getD line 1 0) = digit-small (getD line 1 0) (digit 1 (omega arith)) (omega (arith, kind-digits, k .1)) in
       record {
         long = r .0;
-        digits = λ i h. counts-digit (getD line i 0) (hex-at line i (r .1) (omega (arith, r .0)));
-        low = ⊎-elim (λ h. absurd (other (λ z. omega arith) (λ z. omega arith) (λ z. omega arith))) (λ h. h) (split-lt kind 1);
-        high = ⊎-elim (λ h. absurd (other (λ z. omega arith) (λ z. omega arith) (λ z. omega arith))) (λ h. h) (split-lt 3 kind);
+        digits = digit;
+        first = omega (arith, kind-digits, k .1);
+        second = (omega (arith, kind-digits, k .0, k .1), omega (arith, kind-digits, k .1));
       }
 
   form-reads : WellFormed line → parsed line ≡ Malformed → ⊥
@@ -121,10 +140,14 @@ module _ (line : List ℕ) where
       let f : frameOf kind first second ≡ Malformed = parsed-frame line (w .long) a ∙ e in
       let x = toZ w64 first in
       let y = toZ w64 second in
+      let c = digit-decimal (getD line 0 0) (omega (arith, w .first)) (omega (arith, w .first)) in
+      let d = digit-decimal (getD line 1 0) (omega (arith, w .second .0)) (omega (arith, w .second .1)) in
       ⊎-elim (λ k. not-both (Received x second) (sym (frame-received kind first second x k refl ∙ f)))
       (λ k.
       ⊎-elim (λ m. not-both (Range x y) (sym (frame-range kind first second x y k m refl refl ∙ f)))
-      (λ m. not-both (Missing x y) (sym (frame-missing kind first second x y k m (omega (arith, w .low, w .high)) refl refl ∙ f)))
+      (λ m.
+      not-both (Missing x y)
+      (sym (frame-missing kind first second x y k m (omega (arith, kind-digits, w .first, w .second .0, w .second .1)) refl refl ∙ f)))
       (split-eq kind 2))
       (split-eq kind 1)
 
@@ -132,7 +155,7 @@ module _ (line : List ℕ) where
   received-fits : (n : ℤ) (t : ℕ) → parsed line ≡ Reads (Received n t) → SFits w64 n
   received-fits n t e =
       let r = reads-digits (Received n t) e in
-      let w = reads-form (Received n t) e in
+      let w = reads-kind (Received n t) e in
       let f : frameOf kind first second ≡ Reads (Received n t) = parsed-frame line (r .0) (r .1) ∙ e in
       let x = toZ w64 first in
       let y = toZ w64 second in
@@ -148,7 +171,7 @@ module _ (line : List ℕ) where
       let same : Reads (Range x y) ≡ Reads (Received n t) = frame-range kind first second x y k m refl refl ∙ f in
       let z : _≡_ {A = ℕ} 0 1 = cc in absurd (omega arith))
       (λ m.
-      let same : Reads (Missing x y) ≡ Reads (Received n t) = frame-missing kind first second x y k m (omega (arith, w .low, w .high)) refl refl ∙ f in
+      let same : Reads (Missing x y) ≡ Reads (Received n t) = frame-missing kind first second x y k m (omega (arith, w .0, w .1)) refl refl ∙ f in
       let z : _≡_ {A = ℕ} 0 1 = cc in absurd (omega arith))
       (split-eq kind 2))
       (split-eq kind 1)
@@ -259,17 +282,34 @@ module _ (line : List ℕ) (s : State) (list : List ℤ) where
             };
       }
 
+  -- the line that a step says, and what follows where it leaves the state and the list
+  step-line : {W L : Type 0} → (stepOf (parsed line) s list .state ≡ s → W) → (stepOf (parsed line) s list .list ≡ list → L)
+      → AnswerLine (lineRows line s list) (textOf (stepOf (parsed line) s list)) (W × L)
+  step-line words lists =
+      let t = shows (parsed line) refl in
+      record {
+        kind = stepOf (parsed line) s list .kind;
+        number = t .number;
+        rest = t .rest;
+        line = ap (lineOf (stepOf (parsed line) s list .kind)) (t .after);
+        refuses =
+            record {
+              exactly = t .refuses .exactly;
+              untouched = λ n h. let u = t .refuses .untouched n h in (words (u .0), lists (u .1));
+            };
+      }
+
 -- ---- the calls
 
 module _ (w line : List ℕ) (list : List ℤ) (out : List ℕ) where
-  abbrev says : Answer → Verdict
-  says a = verdict (wrote (a .written))
+  abbrev answerSays : Answer → Verdict
+  answerSays a = verdict (wrote (a .written))
 
-  call-rows : Exactly (says (answered w line list out)) (answerRows list out)
+  call-rows : Exactly (answerSays (answered w line list out)) (answerRows list out)
   unfolding answered
-  call-rows = asks-less says refl (length list) 256 (λ a. asks-less says refl (length out) 5148 (λ b. none-left))
+  call-rows = asks-less answerSays refl (length list) 256 (λ a. asks-less answerSays refl (length out) 5148 (λ b. none-left))
 
-  call-leaves : (n : ℕ) → says (answered w line list out) ≡ refused n
+  call-leaves : (n : ℕ) → answerSays (answered w line list out) ≡ refused n
       → (answered w line list out .words ≡ w) × (answered w line list out .list ≡ list) × (answered w line list out .out ≡ out)
   unfolding answered
   call-leaves n e =
@@ -280,7 +320,7 @@ module _ (w line : List ℕ) (list : List ℤ) (out : List ℕ) where
       (λ b. rw (a, b) (refl, refl, refl))
       (λ b. absurd (not-refused n (rw (a, b) at e))))
 
-  call-gives : says (answered w line list out) ≡ accepted → answered w line list out ≡ given (stepOf (parsed line) (stateOf w) list) out
+  call-gives : answerSays (answered w line list out) ≡ accepted → answered w line list out ≡ given (stepOf (parsed line) (stateOf w) list) out
   unfolding answered
   call-gives e =
       split (ltb (length list) 256)
@@ -300,26 +340,23 @@ module _ (w w′ line : List ℕ) (list list′ : List ℤ) (out out′ : List �
             (a .words-are ∙ l .0, a .list-is ∙ l .1, a .out-is ∙ l .2);
       }
 
-  pub line-rows : verdict (wrote r) ≡ accepted → AnswerLine (lineRows line (stateOf w) list) r out out′ ((w′ ≡ w) × (list′ ≡ list))
+  pub line-rows : verdict (wrote r) ≡ accepted
+      → (text : List ℕ) × (wrote r ≡ outcome.done (length text)) × (out′ ≡ over text out)
+      × AnswerLine (lineRows line (stateOf w) list) text ((w′ ≡ w) × (list′ ≡ list))
   line-rows e =
       let x : Step = stepOf (parsed line) (stateOf w) list in
-      let z : answered w line list out ≡ given x out = call-gives w line list out (rw (a .written) at e) in
-      let t = shows line (stateOf w) list (parsed line) refl in
-      let text : textOf x ≡ lineOf (x .kind) (t .number ∷ t .rest) = ap (lineOf (x .kind)) (t .after) in
-      record {
-        kind = x .kind;
-        number = t .number;
-        rest = t .rest;
-        line = a .out-is ∙ ap (λ (y : Answer). y .out) z ∙ ap (λ (l : List ℕ). over l out) text;
-        count = ap wrote (a .written ∙ ap (λ (y : Answer). y .written) z) ∙ ap (λ (l : List ℕ). outcome.done (length l)) text;
-        refuses =
-            record {
-              exactly = t .refuses .exactly;
-              untouched = λ n h.
-                  let u = t .refuses .untouched n h in
-                  (a .words-are ∙ ap (λ (y : Answer). y .words) z ∙ ap recordOf (u .0) ∙ sym (g .made), a .list-is ∙ ap (λ (y : Answer). y .list) z ∙ u .1);
-            };
-      }
+      let z : answered w line list out ≡ given x out = call-gives w line list out (rw (a .written) at e) in (
+        textOf x,
+        ap wrote (a .written ∙ ap (λ (y : Answer). y .written) z),
+        a .out-is ∙ ap (λ (y : Answer). y .out) z,
+        step-line line (stateOf w) list
+            (λ h. a .words-are ∙ ap (λ (y : Answer). y .words) z ∙ ap recordOf h ∙ sym (g .made)) (λ h. a .list-is ∙ ap (λ (y : Answer). y .list) z ∙ h),
+      )
+
+pub feed-line : (x : Run) → Good (x .words)
+    → AnswerLine (lineRows (take (x .count) (x .held)) (stateOf (x .words)) (x .list)) (says 10 x) ((took 10 x .words ≡ x .words) × (took 10 x .list ≡ x .list))
+unfolding says took
+feed-line x g = step-line (take (x .count) (x .held)) (stateOf (x .words)) (x .list) (λ h. ap recordOf h ∙ sym (g .made)) (λ h. h)
 
 module _ (w w′ : List ℕ) (list list′ : List ℤ) (held held′ : List ℕ) (count : ℕ) (piece out out′ : List ℕ) (r : Fed)
     (a : Fed-to r w′ list′ held′ out′ (fed (runOf w list held count) piece out)) where

@@ -1,7 +1,7 @@
 -- Laws of rows: what an answer is by, test after test. Assumes nothing.
-use Prim.Native.Nat.{ℕ, zero, suc, _<_, _≤_}
+use Prim.Native.Nat.{ℕ, _<_, _≤_}
 use native.Mathlib.Omega.{arith}
-use mathlib.Core.Path.{_≡_, refl, sym, _∙_}
+use mathlib.Core.Path.{_≡_, refl, sym}
 use mathlib.Core.Bool.{Bool, true, false, cond, _&&_, _||_}
 use mathlib.Core.Logic.{inl, inr, ⊎-elim}
 use mathlib.Core.List.{List, [], _∷_}
@@ -9,7 +9,7 @@ use lib.Dec.{ltb}
 use borrow.Author.Tests.{ltb-true, ltb-false}
 use Rattle.sequence_number.specs.Outcome.{Outcome, left}
 use Rattle.sequence_number.specs.Outcome as outcome
-use Rattle.refusals.specs.RefusalTable.{Row, row, GivenBy, NoneHolds, Verdict, accepted, refused, Exactly, verdict, numbered}
+use Rattle.refusals.specs.RefusalTable.{Row, row, Verdict, accepted, refused, Exactly, verdict}
 
 -- ---- tests
 
@@ -30,7 +30,7 @@ or-false false b e = (refl, e)
 pub not-refused : (n : ℕ) → accepted ≡ refused n → ⊥
 not-refused n e = let z : _≡_ {A = ℕ} 0 1 = cc in omega arith
 
-same-number : (n m : ℕ) → refused n ≡ refused m → n ≡ m
+pub same-number : (n m : ℕ) → refused n ≡ refused m → n ≡ m
 same-number n m e = cc
 
 -- no row is left

@@ -1,13 +1,13 @@
 -- The rows of numbers and sets, over the kind of number. Assumes nothing.
-use Prim.Native.Nat.{ℕ, zero, suc, _+_, _-_, _<_, _≤_, _^_}
+use Prim.Native.Nat.{ℕ, zero, suc, _+_, _-_, _<_, _^_}
 use native.Mathlib.Omega.{arith}
 use mathlib.Core.Path.{_≡_, refl, sym, ap, subst, _∙_}
-use mathlib.Core.Bool.{Bool, true, false, cond, not, _&&_, _||_}
-use mathlib.Core.Logic.{_⊎_, inl, inr, ⊎-elim}
-use mathlib.Core.List.{List, [], _∷_, map, List·Memᴰ, Memᴰ·map, Memᴰ·of-map, List·Memᴰ·head, List·Memᴰ·tail, List·Memᴰ·not-nil, List·Memᴰ·cases-cons}
+use mathlib.Core.Bool.{Bool, true, false, not}
+use mathlib.Core.Logic.{⊎-elim}
+use mathlib.Core.List.{List, [], _∷_, List·Memᴰ, Memᴰ·map, Memᴰ·of-map, List·Memᴰ·head, List·Memᴰ·tail, List·Memᴰ·not-nil, List·Memᴰ·cases-cons}
 use lib.ListN.{length, getD}
-use lib.Dec.{ltb, T}
-use lib.IntN.{ℤ, pos, negsuc, _+ℤ_}
+use lib.Dec.{T}
+use lib.IntN.{ℤ, pos, _+ℤ_}
 use lib.Signed.{ltZ-yes, ltZ-no, clashℤ}
 use borrow.Author.Tests.{ltb-true, ltb-false}
 use Rattle.sequence_number.specs.Outcome.{Outcome, refusal, found}
@@ -15,17 +15,16 @@ use Rattle.sequence_number.specs.Outcome as outcome
 use Rattle.sequence_number.specs.Kind.{Kind, sequence, fragment}
 use Rattle.sequence_number.specs.Bitmap.{positions}
 use Rattle.sequence_number.specs.Word.{wordAt}
-use Rattle.sequence_number.specs.NumberWire.{readNumber, writeNumber, wrote}
+use Rattle.sequence_number.specs.NumberWire.{writeNumber}
 use Rattle.sequence_number.specs.NumberSet.{NumberSet, members, bytesOf}
-use Rattle.sequence_number.specs.SetWire.{Taken, readSet, takenSet, setBytes, writeSet, measured, measureSet}
-use Rattle.sequence_number.specs.Make.{risingTo, rising, makeSet, setOver}
-use Rattle.sequence_number.specs.Walk.{walkSet, walked, anyPast, inOrder}
-use Rattle.sequence_number.specs.declared.ByteOrder.{ByteOrder}
+use Rattle.sequence_number.specs.SetWire.{Taken, readSet, takenSet, setBytes, writeSet}
+use Rattle.sequence_number.specs.Make.{risingTo, rising, makeSet}
+use Rattle.sequence_number.specs.Walk.{walkSet, anyPast, inOrder}
 use Rattle.sequence_number.proofs.Split.{split, split-lt}
 use Rattle.sequence_number.proofs.KindLaws.{Lawful}
 use Rattle.sequence_number.proofs.SetWireLaws.{length-set-bytes}
-use Rattle.refusals.specs.RefusalTable.{Verdict, Exactly, verdict, numbered, ReadNumber, WriteNumber, ReadSet, WalkSet, WriteSet, MeasureSet, MakeSet, readNumberRows, writeNumberRows, readSetRows, walkRows, writeSetRows, measureSetRows, makeSetRows, StrictlyRising, PastSequence, PastFragment}
-use Rattle.refusals.proofs.RowLaws.{none-left, asks, asks-not, asks-less, left-refused, clash, and-true}
+use Rattle.refusals.specs.RefusalTable.{Verdict, refused, verdict, numbered, Alone, ReadNumber, WriteNumber, ReadSet, WalkSet, WriteSet, MeasureSet, MakeSet, PastSequence, PastFragment}
+use Rattle.refusals.proofs.RowLaws.{not-refused, same-number, none-left, asks, asks-not, asks-less, left-refused, and-true}
 
 module _ (k : Kind) where
   pub number-read : {R : Type 0} (said : R → Outcome (k .Number)) → ReadNumber k said
@@ -78,23 +77,37 @@ module _ {A : Type 0} (below : A → A → Bool) (d : A) (xs : List A) where
       let t : risingTo below d xs (length xs - 1) ≡ true = stepped (length xs - 1) (λ i h. f i (omega arith)) in
       let z : _≡_ {A = ℕ} 0 1 = cc in omega arith
 
--- an answer that holds its refusal number
+-- ---- an answer that holds its refusal number
+
+by-number : {A : Type 0} (x : Outcome A) (n : ℕ) → numbered (refusal x) ≡ refused n → x ≡ outcome.refused n
+by-number (outcome.refused zero) n e = absurd (not-refused n e)
+by-number (outcome.refused (suc m)) n e = ap outcome.refused (same-number (suc m) n e)
+by-number (outcome.done a) n e = absurd (not-refused n e)
+
+module _ {A R : Type 0} (answer : Outcome A → R) (number : R → ℕ) (same : (x : Outcome A) → number (answer x) ≡ refusal x) where
+  alone : (x : Outcome A) (r : R) → r ≡ answer x → Alone answer number r
+  alone x r e n h = e ∙ ap answer (by-number x n (ap numbered (sym (same x)) ∙ ap (λ (y : R). numbered (number y)) (sym e) ∙ h))
+
 module _ (k : Kind) {R : Type 0} where
   pub set-read : (answer : Outcome (Taken (k .Number)) → R) (number : R → ℕ) → ((x : Outcome (Taken (k .Number))) → number (answer x) ≡ refusal x) → ReadSet k answer number
   set-read answer number same o s r e =
-      let says : Outcome ℕ → Verdict = λ x. numbered (refusal (found (takenSet k o s) x)) in
-      let count : ℕ = wordAt o s (k .size) in
-      rw (e, same (readSet k o s))
-      (asks-less says refl (length s) (k .size + 4)
-      (λ a. asks-less says refl 256 count (λ b. asks-less says refl (length s) (bytesOf (k .size) count) (λ c. none-left))))
+      let reads : Outcome ℕ → Verdict = λ x. numbered (refusal (found (takenSet k o s) x)) in
+      let count : ℕ = wordAt o s (k .size) in (
+        rw (e, same (readSet k o s))
+            (asks-less reads refl (length s) (k .size + 4)
+            (λ a. asks-less reads refl 256 count (λ b. asks-less reads refl (length s) (bytesOf (k .size) count) (λ c. none-left)))),
+        alone answer number same (readSet k o s) r e,
+      )
 
   pub set-made : (answer : Outcome (NumberSet (k .Number)) → R) (number : R → ℕ) → ((x : Outcome (NumberSet (k .Number))) → number (answer x) ≡ refusal x) → MakeSet k answer number
-  set-made answer number same base xs r e =
-      rw (e, same (makeSet k base xs))
-      (asks-not (λ (x : Outcome (NumberSet (k .Number))). numbered (refusal x)) refl (rising k xs)
-      (λ f. falls (k .below) (k .nought) xs f)
-      (λ t g. g (rises (k .below) (k .nought) xs t))
-      (λ t. none-left))
+  set-made answer number same base xs r e = (
+    rw (e, same (makeSet k base xs))
+        (asks-not (λ (x : Outcome (NumberSet (k .Number))). numbered (refusal x)) refl (rising k xs)
+        (λ f. falls (k .below) (k .nought) xs f)
+        (λ t g. g (rises (k .below) (k .nought) xs t))
+        (λ t. none-left)),
+    alone answer number same (makeSet k base xs) r e,
+  )
 
 -- ---- a member past its type
 

@@ -14,7 +14,7 @@ use Rattle.proxy_record.specs.Record.{stateOf}
 use Rattle.refusals.proofs.ProxyRows.{add-rows, irrelevant-rows, range-rows, missing-rows, set-up-rows}
 use Rattle.refusals.proofs.AssemblerRows as assembler
 use Rattle.refusals.proofs.AssemblerRows.{fragment-rows, clean-rows}
-use Rattle.refusals.proofs.ReplayRows.{parse-rows, answer-rows, line-rows, feed-rows}
+use Rattle.refusals.proofs.ReplayRows.{parse-rows, answer-rows, line-rows, feed-rows, feed-line}
 use Rattle.refusals.proofs.SetRows.{number-read, number-written, set-read, set-written, set-measured, set-made, set-walked, sequence-over, sequence-within, fragment-over, fragment-within}
 
 -- the answers that hold a set have the refusal's number
@@ -60,4 +60,5 @@ refusal-table =
       answer-line = answer-rows;
       answer-line-says = line-rows;
       feed = λ w w′ list list′ held held′ count piece out out′ r g. feed-rows w w′ list list′ held held′ count piece out out′ r;
+      feed-says = feed-line;
     }

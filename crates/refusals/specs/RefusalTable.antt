@@ -1,6 +1,13 @@
 -- Document 01's table of refusals as theorems: one file to hold beside the paper. First what a row is and what the table says of a call, then the rows
--- of each call in the paper's order and words, then `RefusalTable`: for each public call that can be refused, what follows from its promise. The proof
--- is `refusal-table` of `proofs/TableProof.antt`. Assumes nothing.
+-- of each call in the paper's order and words, then `RefusalTable`: for each public call that can be refused, what follows from its promise, which stands
+-- there as the call's contract has it. The proof is `refusal-table` of `proofs/TableProof.antt`.
+--
+-- The rows by number:
+--   1 readNumberRows, readSetRows (twice), malformed            2 readSetRows, walkRows, writeSetRows, measureSetRows
+--   3 shorter (a call that writes to a lent list or record), answerRows, feedRows
+--   4 notTaken (received, one irrelevant, fragment), missingRows, walkRows            5 rangeRows
+--   6, 7, 8, 9, 10, 11, 12, 13 fragmentRows            14 setUpRows            15 makeSetRows
+-- Assumes nothing.
 use Prim.Native.Nat.{ℕ, zero, suc, _+_, _-_, _*_, _<_, _≤_, _^_}
 use mathlib.Core.Path.{_≡_}
 use mathlib.Core.Bool.{Bool, true, false, cond}
@@ -51,11 +58,10 @@ use Rattle.fragment_assembler.specs.declared.Start.{Start}
 use Rattle.fragment_assembler.specs.declared.Answer.{Answer}
 use Rattle.fragment_assembler.specs.declared.Cleaned.{Cleaned}
 use Rattle.fragment_assembler.specs.declared.Listing as assembler-listing
-use Rattle.replay_lines.specs.Hex.{valueAt}
 use Rattle.replay_lines.specs.Frame.{parsed}
 use Rattle.replay_lines.specs.Decimal.{lineOf}
 use Rattle.replay_lines.specs.Answer.{answered, Answered}
-use Rattle.replay_lines.specs.Feed.{fed, runOf, Fed-to}
+use Rattle.replay_lines.specs.Feed.{Run, took, says, fed, runOf, Fed-to}
 use Rattle.replay_lines.specs.declared.frame.Frame.the-variants.{Received, Range, Missing}
 use Rattle.replay_lines.specs.declared.frame.Parsed.{Parsed}
 use Rattle.replay_lines.specs.declared.frame.Parsed.the-variants.{Malformed, Reads}
@@ -107,10 +113,14 @@ abbrev pub verdict : {A : Type 0} → Outcome A → Verdict
 verdict (outcome.refused n) = refused n
 verdict (outcome.done a) = accepted
 
--- an answer with a refusal number, 0 where it is accepted
+-- an answer that holds a refusal number, 0 where it is accepted
 abbrev pub numbered : ℕ → Verdict
 numbered zero = accepted
 numbered (suc n) = refused (suc n)
+
+-- "Every refusal returns its number alone": of an answer that holds a set too, all of it is by the number
+abbrev pub Alone : {A R : Type 0} → (Outcome A → R) → (R → ℕ) → R → Type 0
+Alone answer refusal r = (n : ℕ) → numbered (refusal r) ≡ refused n → r ≡ answer (outcome.refused n)
 
 -- A number read: its bytes end early
 abbrev pub readNumberRows : Kind → List ℕ → List Row
@@ -136,7 +146,8 @@ readSetRows k o s =
     ∷ []
 
 abbrev pub ReadSet : (k : Kind) {R : Type 0} → (Outcome (Taken (k .Number)) → R) → (R → ℕ) → Type 0
-ReadSet k {R} answer refusal = (o : ByteOrder) (s : List ℕ) (r : R) → r ≡ answer (readSet k o s) → Exactly (numbered (refusal r)) (readSetRows k o s)
+ReadSet k {R} answer refusal = (o : ByteOrder) (s : List ℕ) (r : R) → r ≡ answer (readSet k o s)
+    → Exactly (numbered (refusal r)) (readSetRows k o s) × Alone answer refusal r
 
 -- "A set walked: 2, 4, 3"; 4: "a member past its type in a set walked (added)"
 abbrev pub walkRows : (k : Kind) → (k .Number → Type 0) → NumberSet (k .Number) → List (k .Number) → List Row
@@ -180,7 +191,7 @@ makeSetRows k xs = row 15 (StrictlyRising k xs → ⊥) ∷ []
 
 abbrev pub MakeSet : (k : Kind) {R : Type 0} → (Outcome (NumberSet (k .Number)) → R) → (R → ℕ) → Type 0
 MakeSet k {R} answer refusal = (base : k .Number) (xs : List (k .Number)) (r : R) → r ≡ answer (makeSet k base xs)
-    → Exactly (numbered (refusal r)) (makeSetRows k xs)
+    → Exactly (numbered (refusal r)) (makeSetRows k xs) × Alone answer refusal r
 
 -- `number_of` and `natural` (module number) have no refusal: a number that row 4 names is 0 there.
 
@@ -263,12 +274,12 @@ fedAs (Fed.Took taken count wrote) = accepted
 abbrev pub Digit : ℕ → Type 0
 Digit c = ((48 ≤ c) × (c ≤ 57)) ⊎ ((65 ≤ c) × (c ≤ 70)) ⊎ ((97 ≤ c) × (c ≤ 102))
 
--- "one frame a line, 34 digits", and the kind, which the first two write, is 01, 02 or 03
+-- "one frame a line, 34 digits", of which the first two write the kind: 01, 02 or 03; `0` is 48
 pub record WellFormed (line : List ℕ) : Type 0 where
   pub long : length line ≡ 34
   pub digits : (i : ℕ) → i < 34 → Digit (getD line i 0)
-  pub low : 1 ≤ valueAt line 0 2
-  pub high : valueAt line 0 2 ≤ 3
+  pub first : getD line 0 0 ≡ 48
+  pub second : (49 ≤ getD line 1 0) × (getD line 1 0 ≤ 51)
 
 -- 1: "a replay line is malformed"
 abbrev pub malformed : List ℕ → Row
@@ -284,14 +295,12 @@ frameRows (Reads (Missing start end)) s list = missingRows start end s (take 256
 abbrev pub lineRows : List ℕ → State → List ℤ → List Row
 lineRows line s list = malformed line ∷ frameRows (parsed line) s list
 
--- The answer to a line: "Each line gives kind, refusal or 0, ack base", and the refusal in it is by the line's rows. A refused line leaves the proxy and
--- the list.
-pub record AnswerLine (rows : List Row) (r : Written) (out out′ : List ℕ) (Untouched : Type 0) : Type 0 where
+-- the text of an answer: "Each line gives kind, refusal or 0, ack base", and the refusal in it is by the line's rows
+pub record AnswerLine (rows : List Row) (text : List ℕ) (Untouched : Type 0) : Type 0 where
   pub kind : ℕ
   pub number : ℕ
   pub rest : List ℕ
-  pub line : out′ ≡ over (lineOf kind (number ∷ rest)) out
-  pub count : wrote r ≡ outcome.done (length (lineOf kind (number ∷ rest)))
+  pub line : text ≡ lineOf kind (number ∷ rest)
   pub refuses : Refuses (numbered number) rows Untouched
 
 -- 3, of the call itself: the list is below 256 entries, or the buffer might not hold an answer, which has at most 5,148 bytes
@@ -309,6 +318,7 @@ feedRows list held count out =
 
 -- ==== The table
 
+-- a field for each call, named as the call is
 pub record RefusalTable : Type 0 where
   -- wire
   pub read-sequence-number : ReadNumber sequence readSequence
@@ -350,7 +360,11 @@ pub record RefusalTable : Type 0 where
       → Answered r w′ list′ out′ (answered w line list out) → Refuses (verdict (wrote r)) (answerRows list out) ((w′ ≡ w) × (list′ ≡ list) × (out′ ≡ out))
   pub answer-line-says : (w w′ line : List ℕ) (list list′ : List ℤ) (out out′ : List ℕ) (r : Written) → Good w
       → Answered r w′ list′ out′ (answered w line list out) → verdict (wrote r) ≡ accepted
-      → AnswerLine (lineRows line (stateOf w) list) r out out′ ((w′ ≡ w) × (list′ ≡ list))
+      → (text : List ℕ) × (wrote r ≡ outcome.done (length text)) × (out′ ≡ over text out)
+      × AnswerLine (lineRows line (stateOf w) list) text ((w′ ≡ w) × (list′ ≡ list))
   pub feed : (w w′ : List ℕ) (list list′ : List ℤ) (held held′ : List ℕ) (count : ℕ) (piece out out′ : List ℕ) (r : Fed) → Good w
       → Fed-to r w′ list′ held′ out′ (fed (runOf w list held count) piece out)
       → Refuses (fedAs r) (feedRows list held count out) ((w′ ≡ w) × (list′ ≡ list) × (held′ ≡ held) × (out′ ≡ out))
+  -- what a feed says at a line feed, 10, where x is lent and held
+  pub feed-says : (x : Run) → Good (x .words)
+      → AnswerLine (lineRows (take (x .count) (x .held)) (stateOf (x .words)) (x .list)) (says 10 x) ((took 10 x .words ≡ x .words) × (took 10 x .list ≡ x .list))
