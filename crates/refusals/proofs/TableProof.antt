@@ -9,7 +9,7 @@ use Rattle.sequence_number.specs.NumberSet.{NumberSet}
 use Rattle.sequence_number.specs.SetWire.{Taken, sequenceSetRead, fragmentSetRead}
 use Rattle.sequence_number.specs.Make.{sequenceSetMade, fragmentSetMade}
 use Rattle.sequence_number.proofs.KindLaws.{sequence-lawful, fragment-lawful}
-use Rattle.refusals.specs.RefusalTable.{RefusalTable, PastSequence, PastFragment}
+use Rattle.refusals.specs.RefusalTable.{Order, RefusalTable, PastSequence, PastFragment}
 use Rattle.proxy_record.specs.Record.{stateOf}
 use Rattle.refusals.proofs.ProxyRows.{add-rows, irrelevant-rows, range-rows, missing-rows, set-up-rows}
 use Rattle.refusals.proofs.AssemblerRows as assembler
@@ -34,9 +34,22 @@ fragment-made : (x : Outcome (NumberSet ℕ)) → fragmentSetMade x .refusal ≡
 fragment-made (refused n) = refl
 fragment-made (done s) = refl
 
+in-order : Order
+in-order =
+    record {
+      fragments = λ a area number size D k n. refl;
+      reading = λ k o s. refl;
+      walking = λ k Past s out. refl;
+      writing = λ k o s out. refl;
+      measuring = λ k s. refl;
+      missing = λ start end s out. refl;
+      making = λ k xs. refl;
+    }
+
 pub refusal-table : RefusalTable
 refusal-table =
     record {
+      order = in-order;
       read-sequence-number = number-read sequence readSequence;
       read-fragment-number = number-read fragment readFragment;
       write-sequence-number = number-written sequence sequence-lawful;

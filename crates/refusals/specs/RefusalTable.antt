@@ -1,12 +1,14 @@
 -- Document 01's table of refusals as theorems: one file to hold beside the paper. First what a row is and what the table says of a call, then the rows
 -- of each call in the paper's order and words, then `RefusalTable`: for each public call that can be refused, what follows from its promise, which stands
--- there as the call's contract has it. The proof is `refusal-table` of `proofs/TableProof.antt`.
---
--- The rows by number:
---   1 readNumberRows, readSetRows (twice), malformed            2 readSetRows, walkRows, writeSetRows, measureSetRows
---   3 shorter (a call that writes to a lent list or record), answerRows, feedRows
---   4 notTaken (received, one irrelevant, fragment), missingRows, walkRows            5 rangeRows
---   6, 7, 8, 9, 10, 11, 12, 13 fragmentRows            14 setUpRows            15 makeSetRows
+-- there as the call's contract has it. The proof is `refusal-table` of `proofs/TableProof.antt`. The rows by number:
+--    1  readNumberRows, readSetRows (twice), malformed
+--    2  readSetRows, walkRows, writeSetRows, measureSetRows
+--    3  shorter, of each call that writes to a lent list or sets a record up; answerRows, feedRows
+--    4  notTaken (received, one irrelevant, fragment), missingRows, walkRows
+--    5  rangeRows
+--    6, 7, 8, 9, 10, 11, 12, 13  fragmentRows
+--    14  setUpRows
+--    15  makeSetRows
 -- Assumes nothing.
 use Prim.Native.Nat.{ℕ, zero, suc, _+_, _-_, _*_, _<_, _≤_, _^_}
 use mathlib.Core.Path.{_≡_}
@@ -87,6 +89,10 @@ abbrev pub NoneHolds : List Row → Type 0
 NoneHolds [] = Unit {0}
 NoneHolds (r ∷ rows) = (r .condition → ⊥) × NoneHolds rows
 
+abbrev pub numbers : List Row → List ℕ
+numbers [] = []
+numbers (r ∷ rows) = r .number ∷ numbers rows
+
 -- what an answer says, whatever else stands in it
 pub data Verdict : Type 0 where
   accepted : Verdict
@@ -118,7 +124,7 @@ abbrev pub numbered : ℕ → Verdict
 numbered zero = accepted
 numbered (suc n) = refused (suc n)
 
--- "Every refusal returns its number alone": of an answer that holds a set too, all of it is by the number
+-- "Every refusal returns its number alone": an answer that has room for a set is the one for that number, with the empty set at 0
 abbrev pub Alone : {A R : Type 0} → (Outcome A → R) → (R → ℕ) → R → Type 0
 Alone answer refusal r = (n : ℕ) → numbered (refusal r) ≡ refused n → r ≡ answer (outcome.refused n)
 
@@ -318,8 +324,24 @@ feedRows list held count out =
 
 -- ==== The table
 
+-- the paper's order of each call's rows
+pub record Order : Type 1 where
+  -- "Order: fragment 13, 4, 6, 7, 8, 9, 10, 11, 12"
+  pub fragments : (a : Assembler) (area : List ℕ) (number : ℤ) (size D k n : ℕ)
+      → numbers (fragmentRows a area number size D k n) ≡ 13 ∷ 4 ∷ 6 ∷ 7 ∷ 8 ∷ 9 ∷ 10 ∷ 11 ∷ 12 ∷ []
+  -- "Set reading: 1 for base or count, 2, 1 for words"
+  pub reading : (k : Kind) (o : ByteOrder) (s : List ℕ) → numbers (readSetRows k o s) ≡ 1 ∷ 2 ∷ 1 ∷ []
+  -- "A set walked: 2, 4, 3; written: 2, 3; measured: 2"
+  pub walking : (k : Kind) (Past : k .Number → Type 0) (s : NumberSet (k .Number)) (out : List (k .Number)) → numbers (walkRows k Past s out) ≡ 2 ∷ 4 ∷ 3 ∷ []
+  pub writing : (k : Kind) (o : ByteOrder) (s : NumberSet (k .Number)) (out : List ℕ) → numbers (writeSetRows k o s out) ≡ 2 ∷ 3 ∷ []
+  pub measuring : (k : Kind) (s : NumberSet (k .Number)) → numbers (measureSetRows k s) ≡ 2 ∷ []
+  -- "Missing numbers: 4, then 3. Making: 15"
+  pub missing : (start end : ℤ) (s : State) (out : List ℤ) → numbers (missingRows start end s out) ≡ 4 ∷ 3 ∷ []
+  pub making : (k : Kind) (xs : List (k .Number)) → numbers (makeSetRows k xs) ≡ 15 ∷ []
+
 -- a field for each call, named as the call is
-pub record RefusalTable : Type 0 where
+pub record RefusalTable : Type 1 where
+  pub order : Order
   -- wire
   pub read-sequence-number : ReadNumber sequence readSequence
   pub read-fragment-number : ReadNumber fragment readFragment
