@@ -1,15 +1,15 @@
 -- Laws of rows: what an answer is by, test after test. Assumes nothing.
-use Prim.Native.Nat.{ℕ, _<_, _≤_}
+use Prim.Native.Nat.{ℕ, zero, suc, _<_, _≤_}
 use native.Mathlib.Omega.{arith}
-use mathlib.Core.Path.{_≡_, refl, sym}
+use mathlib.Core.Path.{_≡_, refl, sym, ap}
 use mathlib.Core.Bool.{Bool, true, false, cond, _&&_, _||_}
 use mathlib.Core.Logic.{inl, inr, ⊎-elim}
 use mathlib.Core.List.{List, [], _∷_}
 use lib.Dec.{ltb}
 use borrow.Author.Tests.{ltb-true, ltb-false}
-use Rattle.sequence_number.specs.Outcome.{Outcome, left}
+use Rattle.sequence_number.specs.Outcome.{Outcome, refusal, left}
 use Rattle.sequence_number.specs.Outcome as outcome
-use Rattle.refusals.specs.RefusalTable.{Row, row, Verdict, accepted, refused, Exactly, verdict}
+use Rattle.refusals.specs.RefusalTable.{Row, row, GivenBy, Verdict, accepted, refused, Exactly, verdict, numbered}
 
 -- ---- tests
 
@@ -67,7 +67,32 @@ module _ {X : Type 0} (says : X → Verdict) {x y : X} {n : ℕ} {rows : List Ro
   pub asks-less : (a b : ℕ) → (b ≤ a → Exactly (says y) rows) → Exactly (says (cond (ltb a b) x y)) (row n (a < b) ∷ rows)
   asks-less a b rest = asks (ltb a b) (ltb-true a b) (λ t h. let k : b ≤ a = ltb-false a b t in omega arith) (λ t. rest (ltb-false a b t))
 
--- a refusal leaves the lent output
+-- ---- answers that are the number, 0 where a call is accepted
+
+-- no row has the number 0
+abbrev pub positive : List Row → Bool
+positive [] = true
+positive (r ∷ rows) = ltb 0 (r .number) && positive rows
+
+pub not-nought : (rows : List Row) → positive rows ≡ true → GivenBy 0 rows → ⊥
+not-nought [] p g = g
+not-nought (r ∷ rows) p g =
+    let b = and-true (ltb 0 (r .number)) (positive rows) p in
+    ⊎-elim (λ h. omega (arith, ltb-true 0 (r .number) (b .0), h .0)) (λ h. not-nought rows (b .1) (h .1)) g
+
+pub as-number : {A : Type 0} (x : Outcome A) (rows : List Row) → positive rows ≡ true → Exactly (verdict x) rows → Exactly (numbered (refusal x)) rows
+as-number (outcome.refused zero) rows p e = absurd (not-nought rows p (e .refused-with 0 .0 refl))
+as-number (outcome.refused (suc n)) rows p e = e
+as-number (outcome.done a) rows p e = e
+
+pub by-number : {A : Type 0} (x : Outcome A) (n : ℕ) → numbered (refusal x) ≡ refused n → x ≡ outcome.refused n
+by-number (outcome.refused zero) n e = absurd (not-refused n e)
+by-number (outcome.refused (suc m)) n e = ap outcome.refused (same-number (suc m) n e)
+by-number (outcome.done a) n e = absurd (not-refused n e)
+
+-- ---- lent output
+
+-- a refusal leaves it
 pub left-refused : {A B : Type 0} (o : Outcome A) (answer out : List B) (n : ℕ) → verdict o ≡ refused n → left o answer out ≡ out
 left-refused (outcome.refused m) answer out n e = refl
 left-refused (outcome.done a) answer out n e = absurd (not-refused n e)
