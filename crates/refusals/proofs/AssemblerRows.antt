@@ -68,14 +68,14 @@ call-number a area c =
     (λ t. rw (t, eqb-true (refusal a (length area) c) 0 t))
     (λ t. rw t (sym (numbered-some (refusal a (length area) c) (eqb-false (refusal a (length area) c) 0 t))))
 
-call-leaves : (a : Assembler) (area : List ℕ) (c : Call) (n : ℕ) → verdict (fragment a area c .answer) ≡ refused n
+pub call-leaves : (a : Assembler) (area : List ℕ) (c : Call) (n : ℕ) → verdict (fragment a area c .answer) ≡ refused n
     → (fragment a area c .state ≡ a) × (fragment a area c .area ≡ area)
 unfolding fragment accepted
 call-leaves a area c n e =
     split (eqb (refusal a (length area) c) 0) (λ t. absurd (not-refused n (rw t at e))) (λ t. rw t (refl, refl))
 
 module _ (a : Assembler) (area : List ℕ) (number : ℤ) (fits : SFits w64 number) (time size D k n : ℕ) (payload : List ℕ) where
-  abbrev call : Call
+  abbrev pub call : Call
   call = callOf time (numberOf number) size D k n payload
 
   call-rows : Exactly (numbered (refusal a (length area) call)) (fragmentRows a area number size D k n)
@@ -112,6 +112,9 @@ module _ (a : Assembler) (area : List ℕ) (number : ℤ) (fits : SFits w64 numb
       subst (λ (d : ℕ). Exactly (numbered (cond (ltb (fragments d f) (k - 1 + n)) 12 0)) (row 12 (fragments (sampleSize a number D) f < k - 1 + n) ∷ [])) (sym s)
       (asks-less numbered refl (fragments (sampleSize a number D) f) (k - 1 + n) (λ i. none-left))))))))))
 
+  pub call-exactly : Exactly (verdict (fragment a area call .answer)) (fragmentRows a area number size D k n)
+  call-exactly = subst (λ (v : Verdict). Exactly v (fragmentRows a area number size D k n)) (sym (call-number a area call)) call-rows
+
 pub fragment-rows : (w w′ area area′ : List ℕ) (time : ℕ) (number : ℤ) (size D k n : ℕ) (payload : List ℕ) (r : Answer) → Good w → SFits w64 number
     → Does w area (callOf time (numberOf number) size D k n payload) r w′ area′
     → Refuses (verdict (fateOf r)) (fragmentRows (stateOf w) area number size D k n) ((w′ ≡ w) × (area′ ≡ area))
@@ -120,8 +123,8 @@ fragment-rows w w′ area area′ time number size D k n payload r g fits h =
     let e : verdict (fateOf r) ≡ verdict (fragment (stateOf w) area c .answer) = ap (λ (x : After). verdict (x .answer)) (h .same) in
     record {
       exactly =
-          subst (λ (v : Verdict). Exactly v (fragmentRows (stateOf w) area number size D k n)) (sym (e ∙ call-number (stateOf w) area c))
-          (call-rows (stateOf w) area number fits time size D k n payload);
+          subst (λ (v : Verdict). Exactly v (fragmentRows (stateOf w) area number size D k n)) (sym e)
+          (call-exactly (stateOf w) area number fits time size D k n payload);
       untouched = λ m x.
           let l = call-leaves (stateOf w) area c m (sym e ∙ x) in
           (same-words w′ w (h .good) g (ap (λ (y : After). y .state) (h .same) ∙ l .0), ap (λ (y : After). y .area) (h .same) ∙ l .1);
@@ -148,7 +151,7 @@ module _ (f : ℕ) (reliable : Bool) (p : ℕ) (w : List ℕ) where
       (λ t. rw (t, eqb-true (setUpRefusal f p (length w)) 0 t))
       (λ t. rw t (sym (numbered-some (setUpRefusal f p (length w)) (eqb-false (setUpRefusal f p (length w)) 0 t))))
 
-  set-up-leaves : (n : ℕ) → verdict (setUp f reliable p w .answer) ≡ refused n → setUp f reliable p w .words ≡ w
+  pub set-up-leaves : (n : ℕ) → verdict (setUp f reliable p w .answer) ≡ refused n → setUp f reliable p w .words ≡ w
   unfolding setUp
   set-up-leaves n e = split (eqb (setUpRefusal f p (length w)) 0) (λ t. absurd (not-refused n (rw t at e))) (λ t. rw t refl)
 
@@ -166,31 +169,34 @@ module _ (f : ℕ) (reliable : Bool) (p : ℕ) (w : List ℕ) where
       let b = or-false (eqb p 0) (ltb 65536 p) (a .1) in
       ⊎-elim (λ x. eqb-false f 0 (a .0) x) (⊎-elim (λ x. eqb-false p 0 (b .0) x) (λ x. let k : p ≤ 65536 = ltb-false 65536 p (b .1) in omega arith)) u
 
-  set-up-exactly : Exactly (numbered (setUpRefusal f p (length w))) (setUpRows f reliable p w)
+  set-up-tests : Exactly (numbered (setUpRefusal f p (length w))) (setUpRows f reliable p w)
   unfolding setUpRefusal
-  set-up-exactly =
+  set-up-tests =
       rw (fresh-long f reliable p)
       (asks numbered refl (eqb f 0 || (eqb p 0 || ltb 65536 p)) unfit fit (λ t. asks-less numbered refl (length w) 906 (λ h. none-left)))
+
+  pub set-up-exactly : Exactly (verdict (setUp f reliable p w .answer)) (setUpRows f reliable p w)
+  set-up-exactly = subst (λ (v : Verdict). Exactly v (setUpRows f reliable p w)) (sym set-up-number) set-up-tests
 
   pub set-up-rows : (w′ : List ℕ) (r : Start) → SetsUp w f reliable p r w′ → Refuses (verdict (startedOf r)) (setUpRows f reliable p w) (w′ ≡ w)
   set-up-rows w′ r h =
       let e : verdict (startedOf r) ≡ verdict (setUp f reliable p w .answer) = ap (λ (x : Setting). verdict (x .answer)) (h .same) in
       record {
-        exactly = subst (λ (v : Verdict). Exactly v (setUpRows f reliable p w)) (sym (e ∙ set-up-number)) set-up-exactly;
+        exactly = subst (λ (v : Verdict). Exactly v (setUpRows f reliable p w)) (sym e) set-up-exactly;
         untouched = λ n x. ap (λ (y : Setting). y .words) (h .same) ∙ set-up-leaves n (sym e ∙ x);
       }
 
 -- ---- cleaning, and the missing fragments
 
 module _ (a : Assembler) (cutoff : ℕ) (out : List ℤ) where
-  abbrev cleanSays : Cleaning → Verdict
+  abbrev pub cleanSays : Cleaning → Verdict
   cleanSays x = verdict (x .answer)
 
-  clean-exactly : Exactly (cleanSays (clean a cutoff out)) (shorter out (staleNumbers cutoff (a .places)) ∷ [])
+  pub clean-exactly : Exactly (cleanSays (clean a cutoff out)) (shorter out (staleNumbers cutoff (a .places)) ∷ [])
   unfolding clean
   clean-exactly = asks-less cleanSays refl (length out) (length (staleNumbers cutoff (a .places))) (λ h. none-left)
 
-  clean-leaves : (n : ℕ) → cleanSays (clean a cutoff out) ≡ refused n → (clean a cutoff out .state ≡ a) × (clean a cutoff out .list ≡ out)
+  pub clean-leaves : (n : ℕ) → cleanSays (clean a cutoff out) ≡ refused n → (clean a cutoff out .state ≡ a) × (clean a cutoff out .list ≡ out)
   unfolding clean
   clean-leaves n e =
       split (ltb (length out) (length (staleNumbers cutoff (a .places)))) (λ t. rw t (refl, refl)) (λ t. absurd (not-refused n (rw t at e)))
@@ -209,14 +215,14 @@ clean-rows w w′ cutoff out after r g h =
     }
 
 module _ (a : Assembler) (N : ℕ) (out : List ℕ) where
-  abbrev missSays : Missed → Verdict
+  abbrev pub missSays : Missed → Verdict
   missSays x = verdict (x .answer)
 
-  miss-exactly : Exactly (missSays (missingFor a N out)) (shorter out (missing a N) ∷ [])
+  pub miss-exactly : Exactly (missSays (missingFor a N out)) (shorter out (missing a N) ∷ [])
   unfolding missingFor
   miss-exactly = asks-less missSays refl (length out) (length (missing a N)) (λ h. none-left)
 
-  miss-leaves : (n : ℕ) → missSays (missingFor a N out) ≡ refused n → missingFor a N out .list ≡ out
+  pub miss-leaves : (n : ℕ) → missSays (missingFor a N out) ≡ refused n → missingFor a N out .list ≡ out
   unfolding missingFor
   miss-leaves n e = split (ltb (length out) (length (missing a N))) (λ t. rw t refl) (λ t. absurd (not-refused n (rw t at e)))
 

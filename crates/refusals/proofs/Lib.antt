@@ -4,3 +4,4 @@ pub mod ProxyRows
 pub mod AssemblerRows
 pub mod ReplayRows
 pub mod TableProof
+pub mod ExportProof

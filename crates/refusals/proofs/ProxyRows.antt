@@ -1,5 +1,5 @@
 -- The rows of the writer proxy's calls. Assumes nothing.
-use Prim.Native.Nat.{ℕ, _-_, _^_}
+use Prim.Native.Nat.{ℕ, zero, suc, _-_, _^_}
 use mathlib.Core.Path.{_≡_, refl, sym, ap, subst, _∙_}
 use mathlib.Core.Bool.{Bool, true, false}
 use mathlib.Core.Logic.{_⊎_, inl, inr, ⊎-elim}
@@ -21,12 +21,13 @@ use Rattle.proxy_core.specs.declared.Report.the-variants as Report
 use Rattle.proxy_core.proofs.CallsLaws.{ok-begun}
 use Rattle.writer_proxy.specs.SetUp.{setUp, Begun}
 use Rattle.writer_proxy.specs.Missing.{missingOf, listed, Outcome}
+use Rattle.writer_proxy.specs.Answers.{refusalOf, listingRefusalOf}
 use Rattle.writer_proxy.specs.Statements.{NotTaken}
 use Rattle.writer_proxy.specs.declared.missing.Listing.{Listing}
 use Rattle.writer_proxy.specs.declared.missing.Listing.the-variants as Listing
 use Rattle.writer_proxy.proofs.Refusals.{not-taken, received-accepted, irrelevant-accepted, range-accepted, end-top}
 use Rattle.writer_proxy.proofs.Promises.{received-refused-same, irrelevant-refused-same, range-refused-same, missing-refused-same, set-up-refused-same}
-use Rattle.refusals.specs.RefusalTable.{Verdict, accepted, refused, Exactly, Refuses, reported, listing, notTaken, rangeRows, missingRows, shorter}
+use Rattle.refusals.specs.RefusalTable.{Verdict, accepted, refused, numbered, Exactly, Refuses, reported, listing, notTaken, rangeRows, missingRows, shorter}
 use Rattle.refusals.proofs.RowLaws.{none-left, asks, asks-not, asks-less, not-refused, clash}
 
 -- what an answer says, and the answer
@@ -39,6 +40,18 @@ said-accepted : (r : Report) → ((n : ℕ) → r ≡ Report.Refused n → ⊥) 
 said-accepted Report.Done f = refl
 said-accepted (Report.Forced a b) f = refl
 said-accepted (Report.Refused m) f = absurd (f m refl)
+
+-- the same of its number
+pub number-refused : (r : Report) (n : ℕ) → numbered (refusalOf r) ≡ refused n → r ≡ Report.Refused n
+number-refused Report.Done n e = absurd (not-refused n e)
+number-refused (Report.Forced a b) n e = absurd (not-refused n e)
+number-refused (Report.Refused zero) n e = absurd (not-refused n e)
+number-refused (Report.Refused (suc m)) n e = cc
+
+pub listing-number : (r : Listing) (n : ℕ) → numbered (listingRefusalOf r) ≡ refused n → r ≡ Listing.Refused n
+listing-number (Listing.Listed m) n e = absurd (not-refused n e)
+listing-number (Listing.Refused zero) n e = absurd (not-refused n e)
+listing-number (Listing.Refused (suc m)) n e = cc
 
 abbrev replied : Reply → Verdict
 replied x = reported (x .report)

@@ -1,5 +1,5 @@
 -- The rows of the replay's calls: which lines are malformed, and which refusal an answer line shows. Assumes nothing.
-use Prim.Native.Nat.{ℕ, zero, suc, _+_, _*_, _<_, _≤_, _^_}
+use Prim.Native.Nat.{ℕ, suc, _+_, _*_, _<_, _≤_, _^_}
 use native.Mathlib.Omega.{arith}
 use mathlib.Core.Path.{_≡_, refl, sym, ap, subst, _∙_}
 use mathlib.Core.Bool.{true}
@@ -22,8 +22,6 @@ use Rattle.sequence_number.proofs.Split.{split, split-lt, split-eq}
 use Rattle.proxy_record.specs.State.{State}
 use Rattle.proxy_record.specs.Record.{recordOf, stateOf, Good}
 use Rattle.proxy_core.specs.Calls.{received, irrelevantRange}
-use Rattle.proxy_core.specs.declared.Report.{Report}
-use Rattle.proxy_core.specs.declared.Report.the-variants as Report
 use Rattle.writer_proxy.specs.Answers.{refusalOf, listingRefusalOf}
 use Rattle.writer_proxy.specs.Missing.{missingOf, listed}
 use Rattle.writer_proxy.specs.declared.missing.Listing.{Listing}
@@ -44,7 +42,7 @@ use Rattle.replay_lines.proofs.HexLaws.{digit-low, digit-decimal, digit-between
 use Rattle.replay_lines.proofs.FrameLaws.{parsed-length, parsed-digit, parsed-frame, frame-other, frame-received, frame-range, frame-missing}
 use Rattle.refusals.specs.RefusalTable.{Row, Verdict, accepted, refused, Exactly, Refuses, verdict, numbered, readAs, fedAs, Digit, WellFormed, malformed, frameRows, lineRows, AnswerLine, answerRows, feedRows}
 use Rattle.refusals.proofs.RowLaws.{none-left, holds, passes, asks, asks-not, asks-less, not-refused}
-use Rattle.refusals.proofs.ProxyRows.{row-holds, row-fails, below-holds, below-fails}
+use Rattle.refusals.proofs.ProxyRows.{row-holds, row-fails, below-holds, below-fails, number-refused, listing-number}
 
 -- ---- which lines read
 
@@ -187,17 +185,6 @@ module _ (line : List ℕ) where
   parse-rows (Reads frame) e = read-rows (Reads frame) (sym e) accepted [] (λ z. absurd (not-both frame (sym z))) (λ f z. none-left)
 
 -- ---- the refusal in an answer line
-
-number-refused : (r : Report) (n : ℕ) → numbered (refusalOf r) ≡ refused n → r ≡ Report.Refused n
-number-refused Report.Done n e = absurd (not-refused n e)
-number-refused (Report.Forced a b) n e = absurd (not-refused n e)
-number-refused (Report.Refused zero) n e = absurd (not-refused n e)
-number-refused (Report.Refused (suc m)) n e = cc
-
-listing-number : (r : Listing) (n : ℕ) → numbered (listingRefusalOf r) ≡ refused n → r ≡ Listing.Refused n
-listing-number (Listing.Listed m) n e = absurd (not-refused n e)
-listing-number (Listing.Refused zero) n e = absurd (not-refused n e)
-listing-number (Listing.Refused (suc m)) n e = cc
 
 abbrev past-number : List ℕ → ℕ → Listing → List ℕ
 past-number numbers base (Listing.Listed n) = base ∷ n ∷ numbers
