@@ -11,7 +11,6 @@ use lib.IntN.{ℤ, pos, _+ℤ_}
 use lib.Signed.{ltZ-yes, ltZ-no, clashℤ}
 use borrow.Author.Tests.{ltb-true, ltb-false}
 use Rattle.sequence_number.specs.Outcome.{Outcome, refusal, found}
-use Rattle.sequence_number.specs.Outcome as outcome
 use Rattle.sequence_number.specs.Kind.{Kind, sequence, fragment}
 use Rattle.sequence_number.specs.Bitmap.{positions}
 use Rattle.sequence_number.specs.Word.{wordAt}
