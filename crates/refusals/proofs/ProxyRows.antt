@@ -11,46 +11,34 @@ use lib.Signed.{ltZ, ltZ-yes, _<ℤ_}
 use mir.Syntax.{w64}
 use mir.Val.{SFits}
 use borrow.Author.Tests.{eqb-true, eqb-false}
+use Rattle.sequence_number.specs.Outcome as outcome
 use Rattle.sequence_number.specs.Number.{top, isNumber, natOf}
 use Rattle.proxy_record.specs.State.{State, begun}
 use Rattle.proxy_record.specs.Record.{recordOf, stateOf, Good, size}
 use Rattle.proxy_core.proofs.StepLaws.{good-of}
-use Rattle.proxy_core.specs.Calls.{Reply, received, receivedAt, irrelevant, irrelevantAt, irrelevantRange, rangeAt, Answered}
+use Rattle.proxy_core.specs.Calls.{reported, Reply, received, receivedAt, irrelevant, irrelevantAt, irrelevantRange, rangeAt, Answered}
 use Rattle.proxy_core.specs.declared.Report.{Report}
-use Rattle.proxy_core.specs.declared.Report.the-variants as Report
 use Rattle.proxy_core.proofs.CallsLaws.{ok-begun}
 use Rattle.writer_proxy.specs.SetUp.{setUp, Begun}
-use Rattle.writer_proxy.specs.Missing.{missingOf, listed, Outcome}
+use Rattle.writer_proxy.specs.Missing.{missingOf, listing, listed, After}
 use Rattle.writer_proxy.specs.Statements.{NotTaken}
 use Rattle.writer_proxy.specs.declared.missing.Listing.{Listing}
-use Rattle.writer_proxy.specs.declared.missing.Listing.the-variants as Listing
 use Rattle.writer_proxy.proofs.Refusals.{not-taken, received-accepted, irrelevant-accepted, range-accepted, end-top}
 use Rattle.writer_proxy.proofs.Promises.{received-refused-same, irrelevant-refused-same, range-refused-same, missing-refused-same, set-up-refused-same}
-use Rattle.refusals.specs.RefusalTable.{Verdict, accepted, refused, Exactly, Refuses, reported, listing, notTaken, rangeRows, missingRows, shorter}
-use Rattle.refusals.proofs.RowLaws.{none-left, asks, asks-not, asks-less, not-refused, clash}
-
--- what an answer says, and the answer
-said-refused : (r : Report) (n : ℕ) → reported r ≡ refused n → r ≡ Report.Refused n
-said-refused Report.Done n e = absurd (not-refused n e)
-said-refused (Report.Forced a b) n e = absurd (not-refused n e)
-said-refused (Report.Refused m) n e = cc
-
-said-accepted : (r : Report) → ((n : ℕ) → r ≡ Report.Refused n → ⊥) → reported r ≡ accepted
-said-accepted Report.Done f = refl
-said-accepted (Report.Forced a b) f = refl
-said-accepted (Report.Refused m) f = absurd (f m refl)
+use Rattle.refusals.specs.RefusalTable.{Verdict, refused, Exactly, Refuses, verdict, notTaken, rangeRows, missingRows, shorter}
+use Rattle.refusals.proofs.RowLaws.{said-refused, said-accepted, none-left, asks, asks-not, asks-less, clash}
 
 abbrev replied : Reply → Verdict
-replied x = reported (x .report)
+replied x = verdict (x .report)
 
 -- a call that goes on to its end has no row left
-ends : (x : Reply) → ((n : ℕ) → x .report ≡ Report.Refused n → ⊥) → Exactly (replied x) []
+ends : (x : Reply) → ((n : ℕ) → x .report ≡ outcome.refused n → ⊥) → Exactly (replied x) []
 ends x f = rw (said-accepted (x .report) f) none-left
 
 -- a refused call leaves the record
 module _ (w w′ : List ℕ) (g : Good w) (x : Reply) (r : Report) (a : Answered r w′ x) where
-  kept : ((n : ℕ) → x .report ≡ Report.Refused n → x .state ≡ stateOf w) → (n : ℕ) → reported r ≡ refused n → w′ ≡ w
-  kept same n e = a .1 ∙ ap recordOf (same n (sym (a .0) ∙ said-refused r n e)) ∙ sym (g .made)
+  kept : ((n : ℕ) → x .report ≡ outcome.refused n → x .state ≡ stateOf w) → (n : ℕ) → verdict (reported r) ≡ refused n → w′ ≡ w
+  kept same n e = a .1 ∙ ap recordOf (same n (sym (a .0) ∙ said-refused (reported r) n e)) ∙ sym (g .made)
 
 -- ---- tests
 
@@ -83,7 +71,7 @@ module _ (n : ℤ) (f : SFits w64 n) where
   row-fails e h = clash (isNumber n) e (not-taken n f .1 (named n h))
 
 module _ (w w′ : List ℕ) (n : ℤ) (r : Report) (g : Good w) (f : SFits w64 n) where
-  pub add-rows : (time : ℕ) → Answered r w′ (received n time (stateOf w)) → Refuses (reported r) (notTaken n ∷ []) (w′ ≡ w)
+  pub add-rows : (time : ℕ) → Answered r w′ (received n time (stateOf w)) → Refuses (verdict (reported r)) (notTaken n ∷ []) (w′ ≡ w)
   unfolding received
   add-rows time a =
       record {
@@ -94,7 +82,7 @@ module _ (w w′ : List ℕ) (n : ℤ) (r : Report) (g : Good w) (f : SFits w64 
         untouched = kept w w′ g (received n time (stateOf w)) r a (received-refused-same n f (stateOf w) time);
       }
 
-  pub irrelevant-rows : Answered r w′ (irrelevant n (stateOf w)) → Refuses (reported r) (notTaken n ∷ []) (w′ ≡ w)
+  pub irrelevant-rows : Answered r w′ (irrelevant n (stateOf w)) → Refuses (verdict (reported r)) (notTaken n ∷ []) (w′ ≡ w)
   unfolding irrelevant
   irrelevant-rows a =
       record {
@@ -105,7 +93,7 @@ module _ (w w′ : List ℕ) (n : ℤ) (r : Report) (g : Good w) (f : SFits w64 
         untouched = kept w w′ g (irrelevant n (stateOf w)) r a (irrelevant-refused-same n f (stateOf w));
       }
 
-pub range-rows : (w w′ : List ℕ) (a b : ℤ) (r : Report) → Good w → Answered r w′ (irrelevantRange a b (stateOf w)) → Refuses (reported r) (rangeRows a b) (w′ ≡ w)
+pub range-rows : (w w′ : List ℕ) (a b : ℤ) (r : Report) → Good w → Answered r w′ (irrelevantRange a b (stateOf w)) → Refuses (verdict (reported r)) (rangeRows a b) (w′ ≡ w)
 unfolding irrelevantRange
 range-rows w w′ a b r g h =
     record {
@@ -118,15 +106,11 @@ range-rows w w′ a b r g h =
 
 -- ---- the missing list
 
-listing-refused : (r : Listing) (n : ℕ) → listing r ≡ refused n → r ≡ Listing.Refused n
-listing-refused (Listing.Listed m) n e = absurd (not-refused n e)
-listing-refused (Listing.Refused m) n e = cc
-
 module _ (start end : ℤ) (s : State) (out after : List ℤ) (r : Listing) where
-  pub missing-rows : (r ≡ listed start end s out .answer) × (after ≡ listed start end s out .output) → Refuses (listing r) (missingRows start end s out) (after ≡ out)
+  pub missing-rows : (listing r ≡ listed start end s out .answer) × (after ≡ listed start end s out .output) → Refuses (verdict (listing r)) (missingRows start end s out) (after ≡ out)
   unfolding listed
   missing-rows a =
-      let says : Outcome → Verdict = λ x. listing (x .answer) in
+      let says : After → Verdict = λ x. verdict (x .answer) in
       record {
         exactly =
             rw (a .0)
@@ -134,17 +118,17 @@ module _ (start end : ℤ) (s : State) (out after : List ℤ) (r : Listing) wher
             (λ e. end-top end .0 (eqb-true (natOf end) top e))
             (λ e h. eqb-false (natOf end) top e (end-top end .1 h))
             (λ e. asks-less says refl (length out) (length (missingOf start end s)) (λ h. none-left)));
-        untouched = λ n e. a .1 ∙ missing-refused-same start end s out n (sym (a .0) ∙ listing-refused r n e);
+        untouched = λ n e. a .1 ∙ missing-refused-same start end s out n (sym (a .0) ∙ said-refused (listing r) n e);
       }
 
 -- ---- set-up
 
-pub set-up-rows : (w w′ : List ℕ) (r : Report) → (r ≡ setUp w .report) × (w′ ≡ setUp w .words) → Refuses (reported r) (shorter w (recordOf begun) ∷ []) (w′ ≡ w)
+pub set-up-rows : (w w′ : List ℕ) (r : Report) → (reported r ≡ setUp w .report) × (w′ ≡ setUp w .words) → Refuses (verdict (reported r)) (shorter w (recordOf begun) ∷ []) (w′ ≡ w)
 unfolding setUp
 set-up-rows w w′ r a =
-    let says : Begun → Verdict = λ x. reported (x .report) in
+    let says : Begun → Verdict = λ x. verdict (x .report) in
     let long : length (recordOf begun) ≡ size = good-of (recordOf begun) begun ok-begun refl .whole in
     record {
       exactly = rw (a .0, long) (asks-less says refl (length w) size (λ h. none-left));
-      untouched = λ n e. a .1 ∙ set-up-refused-same w n (sym (a .0) ∙ said-refused r n e);
+      untouched = λ n e. a .1 ∙ set-up-refused-same w n (sym (a .0) ∙ said-refused (reported r) n e);
     }
