@@ -96,6 +96,16 @@ pub data Verdict : Type 0 where
   accepted : Verdict
   refused : ℕ → Verdict
 
+-- of what a call says, done or refused
+abbrev pub verdict : {A : Type 0} → Outcome A → Verdict
+verdict (outcome.refused n) = refused n
+verdict (outcome.done a) = accepted
+
+-- of a number alone, 0 where the call is accepted
+abbrev pub numbered : ℕ → Verdict
+numbered zero = accepted
+numbered (suc n) = refused (suc n)
+
 -- "Given exactly when": refused with n if and only if row n holds and none earlier in the order; accepted if and only if none holds
 pub record Exactly (v : Verdict) (rows : List Row) : Type 0 where
   pub refused-with : (n : ℕ) → (v ≡ refused n) ↔ GivenBy n rows
@@ -111,16 +121,6 @@ abbrev pub shorter : {A B : Type 0} → List A → List B → Row
 shorter out answer = row 3 (length out < length answer)
 
 -- ==== Numbers and sets (crate sequence_number), over the kind of number
-
--- what is found, or why it is refused
-abbrev pub verdict : {A : Type 0} → Outcome A → Verdict
-verdict (outcome.refused n) = refused n
-verdict (outcome.done a) = accepted
-
--- an answer that holds a refusal number, 0 where it is accepted
-abbrev pub numbered : ℕ → Verdict
-numbered zero = accepted
-numbered (suc n) = refused (suc n)
 
 -- "Every refusal returns its number alone": an answer that has room for a set is the one for that number, with the empty set at 0
 abbrev pub Alone : {A R : Type 0} → (Outcome A → R) → (R → ℕ) → R → Type 0
