@@ -1,10 +1,10 @@
 -- The exported calls' table is proved: each answers with the number of what the call below it says. Assumes nothing.
-use Prim.Native.Nat.{ℕ, zero, suc}
+use Prim.Native.Nat.{ℕ}
 use mathlib.Core.Path.{_≡_, refl, ap, _∙_}
 use mathlib.Core.Bool.{true}
 use mathlib.Core.List.{List, [], _∷_}
 use lib.ListN.{length}
-use lib.IntN.{ℤ, pos}
+use lib.IntN.{pos}
 use Rattle.sequence_number.specs.Outcome.{Outcome, found, left}
 use Rattle.sequence_number.specs.Outcome as outcome
 use Rattle.sequence_number.specs.Kind.{Kind, sequence, fragment}
@@ -17,14 +17,9 @@ use Rattle.sequence_number.specs.Number.{numberOf}
 use Rattle.sequence_number.proofs.KindLaws.{Lawful, sequence-lawful, fragment-lawful}
 use Rattle.proxy_record.specs.Record.{recordOf, stateOf, Good}
 use Rattle.proxy_record.specs.State.{begun}
-use Rattle.proxy_core.specs.Calls.{Reply, received, irrelevant, irrelevantRange}
-use Rattle.proxy_core.specs.declared.Report.{Report}
-use Rattle.proxy_core.specs.declared.Report.the-variants as Report
+use Rattle.proxy_core.specs.Calls.{Forcing, Reply, received, irrelevant, irrelevantRange, upTo}
 use Rattle.writer_proxy.specs.SetUp.{setUp}
 use Rattle.writer_proxy.specs.Missing.{listed}
-use Rattle.writer_proxy.specs.Answers.{refusalOf, listingRefusalOf}
-use Rattle.writer_proxy.specs.declared.missing.Listing.{Listing}
-use Rattle.writer_proxy.specs.declared.missing.Listing.the-variants as Listing
 use Rattle.fragment_assembler.specs.Call as call
 use Rattle.fragment_assembler.specs.Refusal.{Call, callOf}
 use Rattle.fragment_assembler.specs.SetUp as setup
@@ -33,13 +28,13 @@ use Rattle.fragment_assembler.specs.Missing.{missing, missingFor}
 use Rattle.fragment_assembler.specs.Words as assembler
 use Rattle.fragment_assembler.proofs.Determined.{same-words}
 use Rattle.receiver.specs.Exports.{orderOf, given, Gives, Lends}
-use Rattle.receiver.specs.ProxyExports.{oldShown, newShown, countShown}
+use Rattle.receiver.specs.ProxyExports.{oldShown, newShown}
 use Rattle.receiver.specs.AssemblerExports.{fateShown}
-use Rattle.refusals.specs.RefusalTable.{Row, refused, Exactly, Refuses, verdict, numbered, reported, listing, shorter, readNumberRows, writeNumberRows, readSetRows, walkRows, PastSequence, PastFragment, writeSetRows, measureSetRows, makeSetRows, notTaken, rangeRows, missingRows, setUpRows, fragmentRows}
+use Rattle.refusals.specs.RefusalTable.{Row, refused, Exactly, Refuses, verdict, numbered, shorter, readNumberRows, writeNumberRows, readSetRows, walkRows, PastSequence, PastFragment, writeSetRows, measureSetRows, makeSetRows, notTaken, rangeRows, missingRows, setUpRows, fragmentRows}
 use Rattle.refusals.specs.ExportTable.{ReadNumberOut, WriteNumberOut, ReadSetOut, WriteSetOut, MakeSetOut, WalkSetOut, MeasureSetOut, ReplyOut, ExportTable}
-use Rattle.refusals.proofs.RowLaws.{positive, not-nought, as-number, by-number}
+use Rattle.refusals.proofs.RowLaws.{positive, as-number, by-number}
 use Rattle.refusals.proofs.SetRows.{read-number-exactly, measure-exactly, read-set-exactly, write-number-exactly, write-set-exactly, make-exactly, walk-exactly, sequence-over, sequence-within, fragment-over, fragment-within}
-use Rattle.refusals.proofs.ProxyRows.{add-rows, irrelevant-rows, range-rows, missing-rows, set-up-rows, number-refused, listing-number}
+use Rattle.refusals.proofs.ProxyRows.{add-rows, irrelevant-rows, range-rows, missing-rows, set-up-rows}
 use Rattle.refusals.proofs.AssemblerRows.{call-exactly, call-leaves, set-up-exactly, set-up-leaves, clean-exactly, clean-leaves, miss-exactly, miss-leaves}
 
 -- ---- numbers and sets
@@ -98,27 +93,16 @@ set-walked k Past e s up out after r count count′ =
 
 -- ---- the proxy
 
-report-number : (r : Report) (rows : List Row) → positive rows ≡ true → Exactly (reported r) rows → Exactly (numbered (refusalOf r)) rows
-report-number Report.Done rows p e = e
-report-number (Report.Forced old new) rows p e = e
-report-number (Report.Refused zero) rows p e = absurd (not-nought rows p (e .refused-with 0 .0 refl))
-report-number (Report.Refused (suc n)) rows p e = e
-
-list-number : (r : Listing) (rows : List Row) → positive rows ≡ true → Exactly (listing r) rows → Exactly (numbered (listingRefusalOf r)) rows
-list-number (Listing.Listed n) rows p e = e
-list-number (Listing.Refused zero) rows p e = absurd (not-nought rows p (e .refused-with 0 .0 refl))
-list-number (Listing.Refused (suc n)) rows p e = e
-
 replies : (call : List ℕ → Reply) (rows : List Row) → positive rows ≡ true
-    → ((w : List ℕ) → Good w → Refuses (reported (call w .report)) rows (recordOf (call w .state) ≡ w)) → ReplyOut call rows
+    → ((w : List ℕ) → Good w → Refuses (verdict (call w .report)) rows (recordOf (call w .state) ≡ w)) → ReplyOut call rows
 replies call rows p base w w′ r old old′ new new′ g x =
     record {
-      exactly = rw (x .answer) (report-number (call w .report) rows p (base w g .exactly));
+      exactly = rw (x .answer) (as-number (call w .report) rows p (base w g .exactly));
       untouched = λ n z.
-          let e : call w .report ≡ Report.Refused n = number-refused (call w .report) n (rw (x .answer) at z) in (
-            x .after ∙ base w g .untouched n (ap reported e),
-            x .from ∙ ap (λ (y : Report). oldShown y old) e,
-            x .to ∙ ap (λ (y : Report). newShown y new) e,
+          let e : call w .report ≡ outcome.refused n = by-number (call w .report) n (rw (x .answer) at z) in (
+            x .after ∙ base w g .untouched n (ap verdict e),
+            x .from ∙ ap (λ (y : Outcome Forcing). oldShown y old) e,
+            x .to ∙ ap (λ (y : Outcome Forcing). newShown y new) e,
           );
     }
 
@@ -140,27 +124,22 @@ export-table =
       measure-sequence-number-set = set-measured sequence;
       measure-fragment-number-set = set-measured fragment;
       proxy-set-up = λ w w′ r a.
-          let base = set-up-rows w (setUp w .words) (setUp w .report) (refl, refl) in
           record {
-            exactly = rw (a .0) (report-number (setUp w .report) (shorter w (recordOf begun) ∷ []) refl (base .exactly));
-            untouched = λ n z. a .1 ∙ base .untouched n (ap reported (number-refused (setUp w .report) n (rw (a .0) at z)));
+            exactly = rw (a .0) (as-number (setUp w .report) (shorter w (recordOf begun) ∷ []) refl (set-up-rows w .exactly));
+            untouched = λ n z. a .1 ∙ set-up-rows w .untouched n (ap verdict (by-number (setUp w .report) n (rw (a .0) at z)));
           };
-      proxy-received-changes-add = λ n time f.
-          replies (λ w. received n time (stateOf w)) (notTaken n ∷ []) refl
-          (λ w g. add-rows w (recordOf (received n time (stateOf w) .state)) n (received n time (stateOf w) .report) g f time (refl, refl));
-      proxy-set-irrelevant-change = λ n f.
-          replies (λ w. irrelevant n (stateOf w)) (notTaken n ∷ []) refl
-          (λ w g. irrelevant-rows w (recordOf (irrelevant n (stateOf w) .state)) n (irrelevant n (stateOf w) .report) g f (refl, refl));
-      proxy-irrelevant-changes-range = ranges;
-      proxy-irrelevant-changes-up-to = ranges (pos 0);
+      proxy-received-changes-add = λ n time f. replies (λ w. received n time (stateOf w)) (notTaken n ∷ []) refl (λ w g. add-rows w g n time f);
+      proxy-set-irrelevant-change = λ n f. replies (λ w. irrelevant n (stateOf w)) (notTaken n ∷ []) refl (λ w g. irrelevant-rows w g n f);
+      proxy-irrelevant-changes-range = λ a b. replies (λ w. irrelevantRange a b (stateOf w)) (rangeRows a b) refl (λ w g. range-rows w g a b);
+      proxy-irrelevant-changes-up-to = λ n. replies (λ w. upTo n (stateOf w)) (rangeRows (pos 0) n) refl (λ w g. range-rows w g (pos 0) n);
       proxy-missing-seqnums = λ w start end out after r count count′ g x.
-          let y = listed start end (stateOf w) out in
-          let base = missing-rows start end (stateOf w) out (y .output) (y .answer) (refl, refl) in
+          let y = listed start end (stateOf w) out .answer in
+          let base = missing-rows start end (stateOf w) out in
           record {
-            exactly = rw (x .answer) (list-number (y .answer) (missingRows start end (stateOf w) out) refl (base .exactly));
+            exactly = rw (x .answer) (as-number y (missingRows start end (stateOf w) out) refl (base .exactly));
             untouched = λ n z.
-                let e : y .answer ≡ Listing.Refused n = listing-number (y .answer) n (rw (x .answer) at z) in
-                (x .entries ∙ base .untouched n (ap listing e), x .value ∙ ap (λ (l : Listing). countShown l count) e);
+                let e : y ≡ outcome.refused n = by-number y n (rw (x .answer) at z) in
+                (x .entries ∙ base .untouched n (ap verdict e), x .value ∙ ap (λ (o : Outcome ℕ). given o count) e);
           };
       assembler-set-up = λ w w′ f reliable p r x.
           let y = setup.setUp f reliable p w .answer in
@@ -202,8 +181,3 @@ export-table =
                 (x .entries ∙ miss-leaves a (numberOf number) out m (ap verdict e), x .value ∙ ap (λ (o : Outcome ℕ). given o before) e);
           };
     }
-  where
-    ranges : (a b : ℤ) → ReplyOut (λ w. irrelevantRange a b (stateOf w)) (rangeRows a b)
-    ranges a b =
-        replies (λ w. irrelevantRange a b (stateOf w)) (rangeRows a b) refl
-        (λ w g. range-rows w (recordOf (irrelevantRange a b (stateOf w) .state)) a b (irrelevantRange a b (stateOf w) .report) g (refl, refl))

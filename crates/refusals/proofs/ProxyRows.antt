@@ -1,5 +1,5 @@
 -- The rows of the writer proxy's calls. Assumes nothing.
-use Prim.Native.Nat.{ℕ, zero, suc, _-_, _^_}
+use Prim.Native.Nat.{ℕ, _-_, _^_}
 use mathlib.Core.Path.{_≡_, refl, sym, ap, subst, _∙_}
 use mathlib.Core.Bool.{Bool, true, false}
 use mathlib.Core.Logic.{_⊎_, inl, inr, ⊎-elim}
@@ -11,59 +11,46 @@ use lib.Signed.{ltZ, ltZ-yes, _<ℤ_}
 use mir.Syntax.{w64}
 use mir.Val.{SFits}
 use borrow.Author.Tests.{eqb-true, eqb-false}
+use Rattle.sequence_number.specs.Outcome.{Outcome}
+use Rattle.sequence_number.specs.Outcome as outcome
 use Rattle.sequence_number.specs.Number.{top, isNumber, natOf}
 use Rattle.proxy_record.specs.State.{State, begun}
 use Rattle.proxy_record.specs.Record.{recordOf, stateOf, Good, size}
 use Rattle.proxy_core.proofs.StepLaws.{good-of}
-use Rattle.proxy_core.specs.Calls.{Reply, received, receivedAt, irrelevant, irrelevantAt, irrelevantRange, rangeAt, Answered}
-use Rattle.proxy_core.specs.declared.Report.{Report}
-use Rattle.proxy_core.specs.declared.Report.the-variants as Report
+use Rattle.proxy_core.specs.Calls.{Reply, received, receivedAt, irrelevant, irrelevantAt, irrelevantRange, rangeAt}
 use Rattle.proxy_core.proofs.CallsLaws.{ok-begun}
 use Rattle.writer_proxy.specs.SetUp.{setUp, Begun}
-use Rattle.writer_proxy.specs.Missing.{missingOf, listed, Outcome}
-use Rattle.writer_proxy.specs.Answers.{refusalOf, listingRefusalOf}
+use Rattle.writer_proxy.specs.Missing.{missingOf, listed, After}
 use Rattle.writer_proxy.specs.Statements.{NotTaken}
-use Rattle.writer_proxy.specs.declared.missing.Listing.{Listing}
-use Rattle.writer_proxy.specs.declared.missing.Listing.the-variants as Listing
 use Rattle.writer_proxy.proofs.Refusals.{not-taken, received-accepted, irrelevant-accepted, range-accepted, end-top}
 use Rattle.writer_proxy.proofs.Promises.{received-refused-same, irrelevant-refused-same, range-refused-same, missing-refused-same, set-up-refused-same}
-use Rattle.refusals.specs.RefusalTable.{Verdict, accepted, refused, numbered, Exactly, Refuses, reported, listing, notTaken, rangeRows, missingRows, shorter}
-use Rattle.refusals.proofs.RowLaws.{none-left, asks, asks-not, asks-less, not-refused, clash}
+use Rattle.refusals.specs.RefusalTable.{Row, Verdict, refused, Exactly, Refuses, verdict, notTaken, rangeRows, missingRows, shorter}
+use Rattle.refusals.proofs.RowLaws.{said-refused, said-accepted, none-left, asks, asks-not, asks-less, clash}
 
--- what an answer says, and the answer
-said-refused : (r : Report) (n : ℕ) → reported r ≡ refused n → r ≡ Report.Refused n
-said-refused Report.Done n e = absurd (not-refused n e)
-said-refused (Report.Forced a b) n e = absurd (not-refused n e)
-said-refused (Report.Refused m) n e = cc
+-- what is promised of a call that says so, and leaves so
+pub told-as : {A B : Type 0} {x y : Outcome A} {before after out : B} (rows : List Row) → Refuses (verdict x) rows (after ≡ before) → (y ≡ x) × (out ≡ after)
+    → Refuses (verdict y) rows (out ≡ before)
+told-as rows h a =
+    record {
+      exactly = rw (a .0) (h .exactly);
+      untouched = λ n z. a .1 ∙ h .untouched n (rw (a .0) at z);
+    }
 
-said-accepted : (r : Report) → ((n : ℕ) → r ≡ Report.Refused n → ⊥) → reported r ≡ accepted
-said-accepted Report.Done f = refl
-said-accepted (Report.Forced a b) f = refl
-said-accepted (Report.Refused m) f = absurd (f m refl)
-
--- the same of its number
-pub number-refused : (r : Report) (n : ℕ) → numbered (refusalOf r) ≡ refused n → r ≡ Report.Refused n
-number-refused Report.Done n e = absurd (not-refused n e)
-number-refused (Report.Forced a b) n e = absurd (not-refused n e)
-number-refused (Report.Refused zero) n e = absurd (not-refused n e)
-number-refused (Report.Refused (suc m)) n e = cc
-
-pub listing-number : (r : Listing) (n : ℕ) → numbered (listingRefusalOf r) ≡ refused n → r ≡ Listing.Refused n
-listing-number (Listing.Listed m) n e = absurd (not-refused n e)
-listing-number (Listing.Refused zero) n e = absurd (not-refused n e)
-listing-number (Listing.Refused (suc m)) n e = cc
-
-abbrev replied : Reply → Verdict
-replied x = reported (x .report)
+abbrev pub replied : Reply → Verdict
+replied x = verdict (x .report)
 
 -- a call that goes on to its end has no row left
-ends : (x : Reply) → ((n : ℕ) → x .report ≡ Report.Refused n → ⊥) → Exactly (replied x) []
+ends : (x : Reply) → ((n : ℕ) → x .report ≡ outcome.refused n → ⊥) → Exactly (replied x) []
 ends x f = rw (said-accepted (x .report) f) none-left
 
--- a refused call leaves the record
-module _ (w w′ : List ℕ) (g : Good w) (x : Reply) (r : Report) (a : Answered r w′ x) where
-  kept : ((n : ℕ) → x .report ≡ Report.Refused n → x .state ≡ stateOf w) → (n : ℕ) → reported r ≡ refused n → w′ ≡ w
-  kept same n e = a .1 ∙ ap recordOf (same n (sym (a .0) ∙ said-refused r n e)) ∙ sym (g .made)
+-- a call by the rows, which leaves the record where it is refused
+module _ (w : List ℕ) (g : Good w) (x : Reply) (rows : List Row) where
+  by-rows : Exactly (replied x) rows → ((n : ℕ) → x .report ≡ outcome.refused n → x .state ≡ stateOf w) → Refuses (replied x) rows (recordOf (x .state) ≡ w)
+  by-rows e same =
+      record {
+        exactly = e;
+        untouched = λ n z. ap recordOf (same n (said-refused (x .report) n z)) ∙ sym (g .made);
+      }
 
 -- ---- tests
 
@@ -95,69 +82,55 @@ module _ (n : ℤ) (f : SFits w64 n) where
   pub row-fails : isNumber n ≡ true → Names n → ⊥
   row-fails e h = clash (isNumber n) e (not-taken n f .1 (named n h))
 
-module _ (w w′ : List ℕ) (n : ℤ) (r : Report) (g : Good w) (f : SFits w64 n) where
-  pub add-rows : (time : ℕ) → Answered r w′ (received n time (stateOf w)) → Refuses (reported r) (notTaken n ∷ []) (w′ ≡ w)
+module _ (w : List ℕ) (g : Good w) where
+  pub add-rows : (n : ℤ) (time : ℕ) → SFits w64 n → Refuses (replied (received n time (stateOf w))) (notTaken n ∷ []) (recordOf (received n time (stateOf w) .state) ≡ w)
   unfolding received
-  add-rows time a =
-      record {
-        exactly =
-            rw (a .0)
-            (asks-not replied refl (isNumber n) (row-holds n f) (row-fails n f)
-            (λ t. ends (receivedAt (natOf n) time (stateOf w)) (received-accepted (natOf n) time (stateOf w))));
-        untouched = kept w w′ g (received n time (stateOf w)) r a (received-refused-same n f (stateOf w) time);
-      }
+  add-rows n time f =
+      by-rows w g (received n time (stateOf w)) (notTaken n ∷ [])
+      (asks-not replied refl (isNumber n) (row-holds n f) (row-fails n f)
+      (λ t. ends (receivedAt (natOf n) time (stateOf w)) (received-accepted (natOf n) time (stateOf w))))
+      (received-refused-same n f (stateOf w) time)
 
-  pub irrelevant-rows : Answered r w′ (irrelevant n (stateOf w)) → Refuses (reported r) (notTaken n ∷ []) (w′ ≡ w)
+  pub irrelevant-rows : (n : ℤ) → SFits w64 n → Refuses (replied (irrelevant n (stateOf w))) (notTaken n ∷ []) (recordOf (irrelevant n (stateOf w) .state) ≡ w)
   unfolding irrelevant
-  irrelevant-rows a =
-      record {
-        exactly =
-            rw (a .0)
-            (asks-not replied refl (isNumber n) (row-holds n f) (row-fails n f)
-            (λ t. ends (irrelevantAt (natOf n) (stateOf w)) (irrelevant-accepted (natOf n) (stateOf w))));
-        untouched = kept w w′ g (irrelevant n (stateOf w)) r a (irrelevant-refused-same n f (stateOf w));
-      }
+  irrelevant-rows n f =
+      by-rows w g (irrelevant n (stateOf w)) (notTaken n ∷ [])
+      (asks-not replied refl (isNumber n) (row-holds n f) (row-fails n f)
+      (λ t. ends (irrelevantAt (natOf n) (stateOf w)) (irrelevant-accepted (natOf n) (stateOf w))))
+      (irrelevant-refused-same n f (stateOf w))
 
-pub range-rows : (w w′ : List ℕ) (a b : ℤ) (r : Report) → Good w → Answered r w′ (irrelevantRange a b (stateOf w)) → Refuses (reported r) (rangeRows a b) (w′ ≡ w)
-unfolding irrelevantRange
-range-rows w w′ a b r g h =
-    record {
-      exactly =
-          rw (h .0)
-          (asks replied refl (ltZ b a) (below-holds b a) (below-fails b a)
-          (λ e. ends (rangeAt (natOf a) (natOf b) (stateOf w)) (range-accepted (natOf a) (natOf b) (stateOf w))));
-      untouched = kept w w′ g (irrelevantRange a b (stateOf w)) r h (range-refused-same a b (stateOf w));
-    }
+  pub range-rows : (a b : ℤ) → Refuses (replied (irrelevantRange a b (stateOf w))) (rangeRows a b) (recordOf (irrelevantRange a b (stateOf w) .state) ≡ w)
+  unfolding irrelevantRange
+  range-rows a b =
+      by-rows w g (irrelevantRange a b (stateOf w)) (rangeRows a b)
+      (asks replied refl (ltZ b a) (below-holds b a) (below-fails b a)
+      (λ e. ends (rangeAt (natOf a) (natOf b) (stateOf w)) (range-accepted (natOf a) (natOf b) (stateOf w))))
+      (range-refused-same a b (stateOf w))
 
 -- ---- the missing list
 
-listing-refused : (r : Listing) (n : ℕ) → listing r ≡ refused n → r ≡ Listing.Refused n
-listing-refused (Listing.Listed m) n e = absurd (not-refused n e)
-listing-refused (Listing.Refused m) n e = cc
-
-module _ (start end : ℤ) (s : State) (out after : List ℤ) (r : Listing) where
-  pub missing-rows : (r ≡ listed start end s out .answer) × (after ≡ listed start end s out .output) → Refuses (listing r) (missingRows start end s out) (after ≡ out)
+module _ (start end : ℤ) (s : State) (out : List ℤ) where
+  pub missing-rows : Refuses (verdict (listed start end s out .answer)) (missingRows start end s out) (listed start end s out .output ≡ out)
   unfolding listed
-  missing-rows a =
-      let says : Outcome → Verdict = λ x. listing (x .answer) in
+  missing-rows =
+      let says : After → Verdict = λ x. verdict (x .answer) in
       record {
         exactly =
-            rw (a .0)
-            (asks says refl (eqb (natOf end) top)
+            asks says refl (eqb (natOf end) top)
             (λ e. end-top end .0 (eqb-true (natOf end) top e))
             (λ e h. eqb-false (natOf end) top e (end-top end .1 h))
-            (λ e. asks-less says refl (length out) (length (missingOf start end s)) (λ h. none-left)));
-        untouched = λ n e. a .1 ∙ missing-refused-same start end s out n (sym (a .0) ∙ listing-refused r n e);
+            (λ e. asks-less says refl (length out) (length (missingOf start end s)) (λ h. none-left));
+        untouched = λ n e. missing-refused-same start end s out n (said-refused (listed start end s out .answer) n e);
       }
 
 -- ---- set-up
 
-pub set-up-rows : (w w′ : List ℕ) (r : Report) → (r ≡ setUp w .report) × (w′ ≡ setUp w .words) → Refuses (reported r) (shorter w (recordOf begun) ∷ []) (w′ ≡ w)
+pub set-up-rows : (w : List ℕ) → Refuses (verdict (setUp w .report)) (shorter w (recordOf begun) ∷ []) (setUp w .words ≡ w)
 unfolding setUp
-set-up-rows w w′ r a =
-    let says : Begun → Verdict = λ x. reported (x .report) in
+set-up-rows w =
+    let says : Begun → Verdict = λ x. verdict (x .report) in
     let long : length (recordOf begun) ≡ size = good-of (recordOf begun) begun ok-begun refl .whole in
     record {
-      exactly = rw (a .0, long) (asks-less says refl (length w) size (λ h. none-left));
-      untouched = λ n e. a .1 ∙ set-up-refused-same w n (sym (a .0) ∙ said-refused r n e);
+      exactly = rw long (asks-less says refl (length w) size (λ h. none-left));
+      untouched = λ n e. set-up-refused-same w n (said-refused (setUp w .report) n e);
     }

@@ -17,15 +17,13 @@ use Rattle.sequence_number.specs.Lent.{over}
 use Rattle.sequence_number.specs.Number.{top, isNumber, natOf}
 use Rattle.sequence_number.specs.NumberWire.{wrote}
 use Rattle.sequence_number.specs.declared.wire.Written.{Written}
+use Rattle.sequence_number.specs.Outcome.{refusal}
 use Rattle.sequence_number.specs.Outcome as outcome
 use Rattle.sequence_number.proofs.Split.{split, split-lt, split-eq}
 use Rattle.proxy_record.specs.State.{State}
 use Rattle.proxy_record.specs.Record.{recordOf, stateOf, Good}
 use Rattle.proxy_core.specs.Calls.{received, irrelevantRange}
-use Rattle.writer_proxy.specs.Answers.{refusalOf, listingRefusalOf}
 use Rattle.writer_proxy.specs.Missing.{missingOf, listed}
-use Rattle.writer_proxy.specs.declared.missing.Listing.{Listing}
-use Rattle.writer_proxy.specs.declared.missing.Listing.the-variants as Listing
 use Rattle.writer_proxy.proofs.Refusals.{end-top}
 use Rattle.writer_proxy.proofs.Promises.{received-number, range-number, missing-number, received-refused-same, range-refused-same, missing-refused-same}
 use Rattle.replay_lines.specs.Hex.{digitOf, allHex, valueAt}
@@ -41,8 +39,8 @@ use Rattle.replay_lines.specs.declared.feed.Fed.{Fed}
 use Rattle.replay_lines.proofs.HexLaws.{digit-low, digit-decimal, digit-between, digit-upper, digit-between-cases, digit-lower, digit-high, hex-at, value-none, value-more, value-fits}
 use Rattle.replay_lines.proofs.FrameLaws.{parsed-length, parsed-digit, parsed-frame, frame-other, frame-received, frame-range, frame-missing}
 use Rattle.refusals.specs.RefusalTable.{Row, Verdict, accepted, refused, Exactly, Refuses, verdict, numbered, readAs, fedAs, Digit, WellFormed, malformed, frameRows, lineRows, AnswerLine, answerRows, feedRows}
-use Rattle.refusals.proofs.RowLaws.{none-left, holds, passes, asks, asks-not, asks-less, not-refused}
-use Rattle.refusals.proofs.ProxyRows.{row-holds, row-fails, below-holds, below-fails, number-refused, listing-number}
+use Rattle.refusals.proofs.RowLaws.{none-left, holds, passes, asks, asks-not, asks-less, not-refused, by-number}
+use Rattle.refusals.proofs.ProxyRows.{row-holds, row-fails, below-holds, below-fails}
 
 -- ---- which lines read
 
@@ -186,13 +184,13 @@ module _ (line : List ℕ) where
 
 -- ---- the refusal in an answer line
 
-abbrev past-number : List ℕ → ℕ → Listing → List ℕ
-past-number numbers base (Listing.Listed n) = base ∷ n ∷ numbers
-past-number numbers base (Listing.Refused k) = base ∷ []
+abbrev past-number : List ℕ → ℕ → outcome.Outcome ℕ → List ℕ
+past-number numbers base (outcome.refused k) = base ∷ []
+past-number numbers base (outcome.done n) = base ∷ n ∷ numbers
 
-counted-number : (numbers : List ℕ) (base : ℕ) (r : Listing) → counted numbers base r ≡ listingRefusalOf r ∷ past-number numbers base r
-counted-number numbers base (Listing.Listed n) = refl
-counted-number numbers base (Listing.Refused k) = refl
+counted-number : (numbers : List ℕ) (base : ℕ) (r : outcome.Outcome ℕ) → counted numbers base r ≡ refusal r ∷ past-number numbers base r
+counted-number numbers base (outcome.refused k) = refl
+counted-number numbers base (outcome.done n) = refl
 
 -- a step shows a number, which is by the rows, and a refused one changes nothing
 record Shows (x : Step) (rows : List Row) (s : State) (list : List ℤ) : Type 0 where
@@ -217,45 +215,45 @@ module _ (line : List ℕ) (s : State) (list : List ℤ) where
       }
   shows (Reads (Received n t)) e =
       record {
-        number = refusalOf (received n t s .report);
+        number = refusal (received n t s .report);
         rest = received n t s .state .base ∷ [];
         after = refl;
         refuses =
             record {
               exactly =
-                  read-rows line (Reads (Received n t)) e (numbered (refusalOf (received n t s .report))) (frameRows (parsed line) s list)
+                  read-rows line (Reads (Received n t)) e (numbered (refusal (received n t s .report))) (frameRows (parsed line) s list)
                   (λ z. absurd (not-both (Received n t) (sym z)))
                   (λ frame z.
                   rw (e, received-number n t s)
                   (asks-not numbered refl (isNumber n) (row-holds n (received-fits line n t e)) (row-fails n (received-fits line n t e)) (λ h. none-left)));
-              untouched = λ k z. (received-refused-same n (received-fits line n t e) s t k (number-refused (received n t s .report) k z), refl);
+              untouched = λ k z. (received-refused-same n (received-fits line n t e) s t k (by-number (received n t s .report) k z), refl);
             };
       }
   shows (Reads (Range a b)) e =
       record {
-        number = refusalOf (irrelevantRange a b s .report);
+        number = refusal (irrelevantRange a b s .report);
         rest = irrelevantRange a b s .state .base ∷ [];
         after = refl;
         refuses =
             record {
               exactly =
-                  read-rows line (Reads (Range a b)) e (numbered (refusalOf (irrelevantRange a b s .report))) (frameRows (parsed line) s list)
+                  read-rows line (Reads (Range a b)) e (numbered (refusal (irrelevantRange a b s .report))) (frameRows (parsed line) s list)
                   (λ z. absurd (not-both (Range a b) (sym z)))
                   (λ frame z. rw (e, range-number a b s) (asks numbered refl (ltZ b a) (below-holds b a) (below-fails b a) (λ h. none-left)));
-              untouched = λ k z. (range-refused-same a b s k (number-refused (irrelevantRange a b s .report) k z), refl);
+              untouched = λ k z. (range-refused-same a b s k (by-number (irrelevantRange a b s .report) k z), refl);
             };
       }
   shows (Reads (Missing start end)) e =
       let some : List ℤ = take 256 list in
-      let answer : Listing = listed start end s some .answer in
+      let answer : outcome.Outcome ℕ = listed start end s some .answer in
       record {
-        number = listingRefusalOf answer;
+        number = refusal answer;
         rest = past-number (missingOf start end s) (s .base) answer;
         after = counted-number (missingOf start end s) (s .base) answer;
         refuses =
             record {
               exactly =
-                  read-rows line (Reads (Missing start end)) e (numbered (listingRefusalOf answer)) (frameRows (parsed line) s list)
+                  read-rows line (Reads (Missing start end)) e (numbered (refusal answer)) (frameRows (parsed line) s list)
                   (λ z. absurd (not-both (Missing start end) (sym z)))
                   (λ frame z.
                   rw (e, missing-number start end s some)
@@ -265,7 +263,7 @@ module _ (line : List ℕ) (s : State) (list : List ℤ) where
                   (λ h. asks-less numbered refl (length some) (length (missingOf start end s)) (λ k. none-left))));
               untouched =
                   λ k z.
-                  (refl, ap (λ (l : List ℤ). l ++ drop 256 list) (missing-refused-same start end s some k (listing-number answer k z)) ∙ take-append-drop 256 list);
+                  (refl, ap (λ (l : List ℤ). l ++ drop 256 list) (missing-refused-same start end s some k (by-number answer k z)) ∙ take-append-drop 256 list);
             };
       }
 

@@ -33,6 +33,15 @@ not-refused n e = let z : _≡_ {A = ℕ} 0 1 = cc in omega arith
 pub same-number : (n m : ℕ) → refused n ≡ refused m → n ≡ m
 same-number n m e = cc
 
+-- what is found, by what is said of it
+pub said-refused : {A : Type 0} (x : Outcome A) (n : ℕ) → verdict x ≡ refused n → x ≡ outcome.refused n
+said-refused (outcome.refused m) n e = ap outcome.refused (same-number m n e)
+said-refused (outcome.done a) n e = absurd (not-refused n e)
+
+pub said-accepted : {A : Type 0} (x : Outcome A) → ((n : ℕ) → x ≡ outcome.refused n → ⊥) → verdict x ≡ accepted
+said-accepted (outcome.refused m) f = absurd (f m refl)
+said-accepted (outcome.done a) f = refl
+
 -- no row is left
 pub none-left : Exactly accepted []
 none-left = record { refused-with = λ n. (λ e. absurd (not-refused n e), λ x. absurd x); otherwise = (λ e. tt, λ x. refl) }

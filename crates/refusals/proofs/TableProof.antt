@@ -9,9 +9,11 @@ use Rattle.sequence_number.specs.NumberSet.{NumberSet}
 use Rattle.sequence_number.specs.SetWire.{Taken, sequenceSetRead, fragmentSetRead}
 use Rattle.sequence_number.specs.Make.{sequenceSetMade, fragmentSetMade}
 use Rattle.sequence_number.proofs.KindLaws.{sequence-lawful, fragment-lawful}
-use Rattle.refusals.specs.RefusalTable.{Order, RefusalTable, PastSequence, PastFragment}
-use Rattle.proxy_record.specs.Record.{stateOf}
-use Rattle.refusals.proofs.ProxyRows.{add-rows, irrelevant-rows, range-rows, missing-rows, set-up-rows}
+use Rattle.refusals.specs.RefusalTable.{Order, RefusalTable, shorter, notTaken, rangeRows, missingRows, PastSequence, PastFragment}
+use mathlib.Core.List.{[], _∷_}
+use Rattle.proxy_record.specs.State.{begun}
+use Rattle.proxy_record.specs.Record.{stateOf, recordOf}
+use Rattle.refusals.proofs.ProxyRows.{told-as, add-rows, irrelevant-rows, range-rows, missing-rows, set-up-rows}
 use Rattle.refusals.proofs.AssemblerRows as assembler
 use Rattle.refusals.proofs.AssemblerRows.{fragment-rows, clean-rows}
 use Rattle.refusals.proofs.ReplayRows.{parse-rows, answer-rows, line-rows, feed-rows, feed-line}
@@ -59,12 +61,12 @@ refusal-table =
       len-serialized = (set-measured sequence, set-measured fragment);
       from-base-and-set = (set-made sequence sequenceSetMade (λ r. r .refusal) sequence-made, set-made fragment fragmentSetMade (λ r. r .refusal) fragment-made);
       iter = (set-walked sequence PastSequence sequence-over sequence-within, set-walked fragment PastFragment fragment-over fragment-within);
-      proxy-set-up = set-up-rows;
-      received-changes-add = λ w w′ n time r g f. add-rows w w′ n r g f time;
-      set-irrelevant-change = irrelevant-rows;
-      irrelevant-changes-range = range-rows;
-      irrelevant-changes-up-to = λ w w′. range-rows w w′ (pos 0);
-      missing-seqnums = λ w start end out after r g. missing-rows start end (stateOf w) out after r;
+      proxy-set-up = λ w w′ r. told-as (shorter w (recordOf begun) ∷ []) (set-up-rows w);
+      received-changes-add = λ w w′ n time r g f. told-as (notTaken n ∷ []) (add-rows w g n time f);
+      set-irrelevant-change = λ w w′ n r g f. told-as (notTaken n ∷ []) (irrelevant-rows w g n f);
+      irrelevant-changes-range = λ w w′ a b r g. told-as (rangeRows a b) (range-rows w g a b);
+      irrelevant-changes-up-to = λ w w′ n r g. told-as (rangeRows (pos 0) n) (range-rows w g (pos 0) n);
+      missing-seqnums = λ w start end out after r g. told-as (missingRows start end (stateOf w) out) (missing-rows start end (stateOf w) out);
       assembler-set-up = λ w w′ f reliable p. assembler.set-up-rows f reliable p w w′;
       new-datafrag = fragment-rows;
       garbage-collect-before = clean-rows;

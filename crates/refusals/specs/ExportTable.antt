@@ -9,6 +9,7 @@ use lib.ListN.{length}
 use lib.IntN.{ℤ, pos}
 use mir.Syntax.{w64}
 use mir.Val.{SFits}
+use Rattle.sequence_number.specs.Outcome.{refusal}
 use Rattle.sequence_number.specs.Number.{numberOf}
 use Rattle.sequence_number.specs.Kind.{Kind, sequence, fragment}
 use Rattle.sequence_number.specs.NumberWire.{readNumber, writeNumber}
@@ -21,7 +22,6 @@ use Rattle.proxy_record.specs.Record.{recordOf, stateOf, Good}
 use Rattle.proxy_core.specs.Calls.{Reply, received, irrelevant, irrelevantRange, upTo}
 use Rattle.writer_proxy.specs.SetUp.{setUp}
 use Rattle.writer_proxy.specs.Missing.{listed}
-use Rattle.writer_proxy.specs.Answers.{refusalOf}
 use Rattle.fragment_assembler.specs.Refusal.{callOf}
 use Rattle.fragment_assembler.specs.Clean.{staleNumbers}
 use Rattle.fragment_assembler.specs.Missing.{missing}
@@ -85,7 +85,7 @@ pub record ExportTable : Type 0 where
   pub walk-fragment-number-set : WalkSetOut fragment PastFragment
   pub measure-sequence-number-set : MeasureSetOut sequence
   pub measure-fragment-number-set : MeasureSetOut fragment
-  pub proxy-set-up : (w w′ : List ℕ) (r : ℕ) → (r ≡ refusalOf (setUp w .report)) × (w′ ≡ setUp w .words)
+  pub proxy-set-up : (w w′ : List ℕ) (r : ℕ) → (r ≡ refusal (setUp w .report)) × (w′ ≡ setUp w .words)
       → Refuses (numbered r) (shorter w (recordOf begun) ∷ []) (w′ ≡ w)
   pub proxy-received-changes-add : (n : ℤ) (time : ℕ) → SFits w64 n → ReplyOut (λ w. received n time (stateOf w)) (notTaken n ∷ [])
   pub proxy-set-irrelevant-change : (n : ℤ) → SFits w64 n → ReplyOut (λ w. irrelevant n (stateOf w)) (notTaken n ∷ [])

@@ -37,14 +37,12 @@ use Rattle.sequence_number.specs.declared.set.Measured.{Measured}
 use Rattle.sequence_number.specs.declared.set.Walked.{Walked}
 use Rattle.proxy_record.specs.State.{State, begun}
 use Rattle.proxy_record.specs.Record.{recordOf, stateOf, Good}
-use Rattle.proxy_core.specs.Calls.{received, irrelevant, irrelevantRange, upTo}
+use Rattle.proxy_core.specs.Calls.{reported, received, irrelevant, irrelevantRange, upTo}
 use Rattle.proxy_core.specs.Calls as proxy
 use Rattle.proxy_core.specs.declared.Report.{Report}
-use Rattle.proxy_core.specs.declared.Report.the-variants as Report
 use Rattle.writer_proxy.specs.SetUp.{setUp}
-use Rattle.writer_proxy.specs.Missing.{missingOf, listed}
+use Rattle.writer_proxy.specs.Missing.{missingOf, listing, listed}
 use Rattle.writer_proxy.specs.declared.missing.Listing.{Listing}
-use Rattle.writer_proxy.specs.declared.missing.Listing.the-variants as Listing
 use Rattle.fragment_assembler.specs.State.{Assembler, at}
 use Rattle.fragment_assembler.specs.Table.{find, inAssembly}
 use Rattle.fragment_assembler.specs.Fragments.{fragments}
@@ -98,6 +96,16 @@ pub data Verdict : Type 0 where
   accepted : Verdict
   refused : ℕ → Verdict
 
+-- of what a call says, done or refused
+abbrev pub verdict : {A : Type 0} → Outcome A → Verdict
+verdict (outcome.refused n) = refused n
+verdict (outcome.done a) = accepted
+
+-- of a number alone, 0 where the call is accepted
+abbrev pub numbered : ℕ → Verdict
+numbered zero = accepted
+numbered (suc n) = refused (suc n)
+
 -- "Given exactly when": refused with n if and only if row n holds and none earlier in the order; accepted if and only if none holds
 pub record Exactly (v : Verdict) (rows : List Row) : Type 0 where
   pub refused-with : (n : ℕ) → (v ≡ refused n) ↔ GivenBy n rows
@@ -113,16 +121,6 @@ abbrev pub shorter : {A B : Type 0} → List A → List B → Row
 shorter out answer = row 3 (length out < length answer)
 
 -- ==== Numbers and sets (crate sequence_number), over the kind of number
-
--- what the answers say
-abbrev pub verdict : {A : Type 0} → Outcome A → Verdict
-verdict (outcome.refused n) = refused n
-verdict (outcome.done a) = accepted
-
--- an answer that holds a refusal number, 0 where it is accepted
-abbrev pub numbered : ℕ → Verdict
-numbered zero = accepted
-numbered (suc n) = refused (suc n)
 
 -- "Every refusal returns its number alone": an answer that has room for a set is the one for that number, with the empty set at 0
 abbrev pub Alone : {A R : Type 0} → (Outcome A → R) → (R → ℕ) → R → Type 0
@@ -202,16 +200,6 @@ MakeSet k {R} answer refusal = (base : k .Number) (xs : List (k .Number)) (r : R
 -- `number_of` and `natural` (module number) have no refusal: a number that row 4 names is 0 there.
 
 -- ==== The writer proxy (crate writer_proxy); `SFits w64 n` says that n is an i64
-
--- what the answers say: a forced step is an accepted call
-abbrev pub reported : Report → Verdict
-reported Report.Done = accepted
-reported (Report.Forced old new) = accepted
-reported (Report.Refused n) = refused n
-
-abbrev pub listing : Listing → Verdict
-listing (Listing.Listed n) = accepted
-listing (Listing.Refused n) = refused n
 
 -- 4: "number below 1 or equal to 2^63 - 1 in received, one irrelevant or fragment"
 abbrev pub notTaken : ℤ → Row
@@ -354,18 +342,19 @@ pub record RefusalTable : Type 1 where
   pub from-base-and-set : MakeSet sequence sequenceSetMade (λ r. r .refusal) × MakeSet fragment fragmentSetMade (λ r. r .refusal)
   pub iter : WalkSet sequence PastSequence × WalkSet fragment PastFragment
   -- writer_proxy; w is the lent record
-  pub proxy-set-up : (w w′ : List ℕ) (r : Report) → (r ≡ setUp w .report) × (w′ ≡ setUp w .words) → Refuses (reported r) (shorter w (recordOf begun) ∷ []) (w′ ≡ w)
+  pub proxy-set-up : (w w′ : List ℕ) (r : Report) → (reported r ≡ setUp w .report) × (w′ ≡ setUp w .words)
+      → Refuses (verdict (reported r)) (shorter w (recordOf begun) ∷ []) (w′ ≡ w)
   pub received-changes-add : (w w′ : List ℕ) (n : ℤ) (time : ℕ) (r : Report) → Good w → SFits w64 n → proxy.Answered r w′ (received n time (stateOf w))
-      → Refuses (reported r) (notTaken n ∷ []) (w′ ≡ w)
+      → Refuses (verdict (reported r)) (notTaken n ∷ []) (w′ ≡ w)
   pub set-irrelevant-change : (w w′ : List ℕ) (n : ℤ) (r : Report) → Good w → SFits w64 n → proxy.Answered r w′ (irrelevant n (stateOf w))
-      → Refuses (reported r) (notTaken n ∷ []) (w′ ≡ w)
+      → Refuses (verdict (reported r)) (notTaken n ∷ []) (w′ ≡ w)
   pub irrelevant-changes-range : (w w′ : List ℕ) (a b : ℤ) (r : Report) → Good w → proxy.Answered r w′ (irrelevantRange a b (stateOf w))
-      → Refuses (reported r) (rangeRows a b) (w′ ≡ w)
+      → Refuses (verdict (reported r)) (rangeRows a b) (w′ ≡ w)
   pub irrelevant-changes-up-to : (w w′ : List ℕ) (n : ℤ) (r : Report) → Good w → proxy.Answered r w′ (upTo n (stateOf w))
-      → Refuses (reported r) (rangeRows (pos 0) n) (w′ ≡ w)
+      → Refuses (verdict (reported r)) (rangeRows (pos 0) n) (w′ ≡ w)
   pub missing-seqnums : (w : List ℕ) (start end : ℤ) (out after : List ℤ) (r : Listing) → Good w
-      → (r ≡ listed start end (stateOf w) out .answer) × (after ≡ listed start end (stateOf w) out .output)
-      → Refuses (listing r) (missingRows start end (stateOf w) out) (after ≡ out)
+      → (listing r ≡ listed start end (stateOf w) out .answer) × (after ≡ listed start end (stateOf w) out .output)
+      → Refuses (verdict (listing r)) (missingRows start end (stateOf w) out) (after ≡ out)
   -- fragment_assembler; w is the lent record
   pub assembler-set-up : (w w′ : List ℕ) (f : ℕ) (reliable : Bool) (p : ℕ) (r : Start) → SetsUp w f reliable p r w′
       → Refuses (verdict (startedOf r)) (setUpRows f reliable p w) (w′ ≡ w)
