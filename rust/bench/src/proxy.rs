@@ -4,8 +4,8 @@ use std::hint::black_box;
 
 use oracle::original;
 
-use crate::random::Random;
 use crate::rounds::Case;
+use protocol::Random;
 
 const RECEIPTS: i64 = 1_000;
 const QUERIES: usize = 1_024;
@@ -193,7 +193,7 @@ impl Ignore {
         let mut both = Both::new();
         both.receive(1..=100);
         both.receive((0..256).map(|i| 102 + 2 * i));
-        let mut random = Random(1);
+        let mut random = Random::new(1);
         Self {
             both,
             numbers: (0..QUERIES).map(|_| 1 + random.below(700) as i64).collect(),

@@ -8,8 +8,8 @@ use oracle::original;
 use oracle::original::SequenceNumber;
 use speedy::{Endianness, Readable, SliceReader, VecWriter, Writable};
 
-use crate::random::Random;
 use crate::rounds::Case;
+use protocol::Random;
 
 const SETS: usize = 64;
 const SPAN: usize = 256;
@@ -62,7 +62,7 @@ struct Row {
 
 impl Row {
     fn new(name: &'static str, members: usize, original: Pass, port: Pass) -> Self {
-        let mut random = Random(members as u64);
+        let mut random = Random::new(members as u64);
         Self {
             name,
             inputs: (0..SETS).map(|_| Input::new(&mut random, members)).collect(),

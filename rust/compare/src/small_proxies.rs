@@ -7,6 +7,7 @@ use protocol::answer;
 
 use crate::checker::{Checker, Stopped};
 use crate::side::Line;
+use crate::tally::Count;
 
 const NUMBERS: std::ops::RangeInclusive<i64> = -1..=6;
 const TIMES: [u64; 2] = [3, 4];
@@ -66,7 +67,7 @@ pub fn every_state(checker: &mut Checker) -> Result<(), Stopped> {
             }
         }
     }
-    checker.tally.event("states over the numbers -1 to 6", seen.len());
+    checker.tally.add(Count::SmallStates, seen.len());
     Ok(())
 }
 
@@ -133,7 +134,7 @@ pub fn full_tables(checker: &mut Checker) -> Result<(), Stopped> {
                 let dump = line("px.dump A".to_string());
                 let pair = [first.clone(), second.clone(), dump];
                 checker.case(&[table.as_slice(), &pair].concat())?;
-                checker.tally.event("pairs of calls at a full table", 1);
+                checker.tally.add(Count::FullTablePairs, 1);
             }
         }
     }
