@@ -8,7 +8,8 @@ use std::fmt::Write;
 pub enum Count {
     Cases,
     Answers,
-    Command(&'static str),
+    /// By its place in the list of commands.
+    Command(usize),
     Refused(u32),
     ForcedSteps,
     Returned,
@@ -28,7 +29,7 @@ impl Count {
         let name = match self {
             Self::Cases => "cases",
             Self::Answers => "answers compared",
-            Self::Command(name) => name,
+            Self::Command(at) => COMMANDS.get(at).unwrap_or(&REPLAY_LINE),
             Self::Refused(number) => return format!("refused with {number}"),
             Self::ForcedSteps => "forced steps",
             Self::Returned => "samples returned",
@@ -111,8 +112,8 @@ impl Tally {
         let text = String::from_utf8_lossy(line);
         let words: Vec<&str> = text.split(' ').collect();
         let said: Vec<&str> = answer.split(' ').collect();
-        let command = COMMANDS.into_iter().find(|name| *name == words[0]);
-        self.add(Count::Command(command.unwrap_or(REPLAY_LINE)), 1);
+        let command = COMMANDS.into_iter().position(|name| name == words[0]);
+        self.add(Count::Command(command.unwrap_or(COMMANDS.len())), 1);
         // A replay answer has its refusal, or 0, in second place too.
         let refusal = said.get(1).filter(|_| said[0] == "ref" || command.is_none());
         if let Some(number @ 1..) = refusal.and_then(|word| word.parse().ok()) {
@@ -216,7 +217,7 @@ mod tests {
             (Count::OwnEvictions, 1),
             (Count::Cleanings, 1),
             (Count::Cleaned, 2),
-            (Count::Command("replay line"), 1),
+            (Count::Command(COMMANDS.len()), 1),
         ];
         for (count, times) in counts {
             assert_eq!(tally.of(count), times, "{count:?}");

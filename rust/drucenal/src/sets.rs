@@ -62,9 +62,19 @@ impl<N: Number> NumberSet<N> {
     #[inline]
     pub fn read(order: ByteOrder, bytes: &[u8]) -> Result<(Self, usize), Refused> {
         let (mut base, mut count, mut words, mut taken) = (N::ZERO, 0, [0; 8], 0);
-        let answer = N::read_set(order.is_big(), bytes, &mut base, &mut count, &mut words, &mut taken);
-        accepted(answer)?;
-        Ok((Self { base, count, words }, taken))
+        match N::read_set(order.is_big(), bytes, &mut base, &mut count, &mut words, &mut taken) {
+            0 => Ok((Self { base, count, words }, taken)),
+            number => Err(Refused(number)),
+        }
+    }
+
+    /// The same over this set, which a refused call leaves as it is: how many bytes were taken. Nothing is copied.
+    #[inline]
+    pub fn read_over(&mut self, order: ByteOrder, bytes: &[u8]) -> Result<usize, Refused> {
+        let mut taken = 0;
+        let (base, count, words) = (&mut self.base, &mut self.count, &mut self.words);
+        accepted(N::read_set(order.is_big(), bytes, base, count, words, &mut taken))?;
+        Ok(taken)
     }
 
     /// To the first bytes: how many were written. Refusals 2 and 3.
@@ -88,12 +98,26 @@ impl<N: Number> NumberSet<N> {
     #[inline]
     pub fn from_base_and_set(base: N, list: &[N]) -> Result<Self, Refused> {
         let (mut low, mut count, mut words) = (N::ZERO, 0, [0; 8]);
-        accepted(N::make_set(base, list, &mut low, &mut count, &mut words))?;
-        Ok(Self {
-            base: low,
-            count,
-            words,
-        })
+        match N::make_set(base, list, &mut low, &mut count, &mut words) {
+            0 => Ok(Self {
+                base: low,
+                count,
+                words,
+            }),
+            number => Err(Refused(number)),
+        }
+    }
+
+    /// The same over this set, which a refused call leaves as it is. Nothing is copied.
+    #[inline]
+    pub fn make_over(&mut self, base: N, list: &[N]) -> Result<(), Refused> {
+        accepted(N::make_set(
+            base,
+            list,
+            &mut self.base,
+            &mut self.count,
+            &mut self.words,
+        ))
     }
 
     /// The members, rising, to the list's first entries: how many. Refusals 2, 4 and 3.

@@ -68,6 +68,25 @@ fn written_and_read_back() {
 }
 
 #[test]
+fn over_a_set() {
+    let mut set = FragmentNumberSet::new(9, 9);
+    assert_eq!(set.read_over(ByteOrder::Big, &[0; 7]), Err(Refused::ENDS_EARLY));
+    assert_eq!(set.make_over(1, &[2, 2]), Err(Refused::NOT_RISING));
+    assert_eq!(set, FragmentNumberSet::new(9, 9));
+    assert_eq!(set.make_over(5, &[5, 6]), Ok(()));
+    assert_eq!(Ok(set), FragmentNumberSet::from_base_and_set(5, &[5, 6]));
+    let mut bytes = [0; 12];
+    set.write(ByteOrder::Big, &mut bytes).unwrap();
+    let mut other = FragmentNumberSet {
+        base: 7,
+        count: 256,
+        words: [7; 8],
+    };
+    assert_eq!(other.read_over(ByteOrder::Big, &bytes), Ok(12));
+    assert_eq!(other, set);
+}
+
+#[test]
 fn more_than_256_bits() {
     let set = SequenceNumberSet::new(1, 257);
     let mut bytes = [90; 60];
