@@ -3,8 +3,9 @@
 use oracle::Oracle;
 use protocol::{answer, hex, Assembler};
 
-use crate::checker::{Checker, Stopped};
+use crate::checker::{Checker, Stopped, EXHAUSTIVE};
 use crate::side::Line;
+use crate::small_assemblers;
 use protocol::Random;
 
 const PLACES: i64 = 129;
@@ -14,6 +15,9 @@ const LARGEST_PLACE: i64 = 65_536;
 pub fn run(checker: &mut Checker, random: &mut Random, size: usize) -> Result<(), Stopped> {
     checker.lines(&set_ups())?;
     every_refusal(checker)?;
+    if size >= EXHAUSTIVE {
+        small_assemblers::every_assembler(checker)?;
+    }
     let before = checker.compared();
     while checker.compared() < before + size {
         checker.case(&chain(random))?;

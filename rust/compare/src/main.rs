@@ -9,7 +9,9 @@ mod proxy;
 mod replay;
 mod sets;
 mod side;
+mod small_assemblers;
 mod small_proxies;
+mod small_states;
 mod tally;
 #[cfg(test)]
 mod tests;
@@ -25,7 +27,7 @@ const USAGE: &str = "usage: compare num|sets|proxy|asm|replay|all [--seed S] [--
                [--programs CALLS ORACLE] [--replay PROGRAM] [--self]
     --seed       of the scripts: 1 where none is named
     --size       how many answers of random scripts to compare in each part: 1,000,000 where none is named;
-                 fewer than 100,000 leave out the exhaustive parts of sets and proxy
+                 fewer than 100,000 leave out the long exhaustive parts
     --programs   feeds the two programs instead of calling both in this process
     --replay     the port's replay program: target/bin/replay where none is named
     --self       the oracle against itself, to try the generators";
@@ -70,8 +72,10 @@ fn asked(mut words: impl Iterator<Item = String>) -> Option<Asked> {
     (!asked.parts.is_empty()).then_some(asked)
 }
 
+type Sides = (Box<dyn Side>, Box<dyn Side>);
+
 /// The port's side and the oracle's.
-fn sides(asked: &Asked, part: &str) -> Result<(Box<dyn Side>, Box<dyn Side>), String> {
+fn sides(asked: &Asked, part: &str) -> Result<Sides, String> {
     if part == "replay" {
         let oracle = Box::new(replay::OracleReplay);
         return Ok(match &asked.replay {

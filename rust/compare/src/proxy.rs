@@ -13,7 +13,7 @@ const LONGEST_RANGE: i64 = 4096;
 
 pub fn run(checker: &mut Checker, random: &mut Random, size: usize) -> Result<(), Stopped> {
     if size >= EXHAUSTIVE {
-        small_proxies::every_state(checker)?;
+        small_proxies::every_proxy(checker)?;
         small_proxies::full_tables(checker)?;
     }
     let before = checker.compared();

@@ -141,7 +141,7 @@ fn spoil(random: &mut Random, line: &mut Line) {
     match random.below(7) {
         0 => line.clear(),
         1 => line.truncate(random.index(line.len())),
-        2 => line.push(random.pick(&[b'0', b' ', b'\r', b'g'])),
+        2 => line.push(random.pick(b"0 \rg")),
         3 => line.insert(0, b' '),
         4 => line.extend(vec![b'0'; random.index(5000)]),
         _ => {

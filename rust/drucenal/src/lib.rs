@@ -24,6 +24,11 @@
 
 #![deny(missing_docs, unsafe_code)]
 
+/// The receiver's page, whose code is tested with this crate's.
+#[cfg(doctest)]
+#[doc = include_str!("../../../docs/RECEIVER.md")]
+struct Receiver;
+
 pub mod ffi;
 mod fragment_assembler;
 mod numbers;
