@@ -53,6 +53,7 @@ fn judge(script: &[Line], at: usize, port: &str, oracle: &str) -> Verdict {
         let before = at.checked_sub(1).map(|before| script[before].as_slice());
         return match model::answer(&script[at], before) {
             Some(expected) if expected != port => Verdict::Different(expected),
+            None if port.starts_with("err ") => Verdict::Different("no error".to_string()),
             _ => Verdict::Outside,
         };
     }
