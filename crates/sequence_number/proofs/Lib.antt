@@ -15,5 +15,4 @@ pub mod FitLaws
 pub mod MakeLaws
 pub mod MemberLaws
 pub mod RoundTrip
-pub mod KnownValues
 pub mod Determined
