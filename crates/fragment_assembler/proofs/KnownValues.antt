@@ -7,10 +7,10 @@ use mathlib.Core.List.{List, []}
 use lib.ListN.{length}
 use Rattle.sequence_number.specs.Outcome.{refused}
 use Rattle.fragment_assembler.specs.Call.{fragment}
-use Rattle.fragment_assembler.specs.Fragments.{fragments}
+use Rattle.assembly_record.specs.Fragments.{fragments}
 use Rattle.fragment_assembler.specs.Refusal.{Call, callOf, refusal, rows}
 use Rattle.fragment_assembler.specs.SetUp.{empty}
-use Rattle.fragment_assembler.specs.Table.{has}
+use Rattle.assembly_record.specs.Table.{has}
 
 pub P7 : (fragments 10 4 ≡ 3) × (fragments 4 4 ≡ 1)
 unfolding fragments
