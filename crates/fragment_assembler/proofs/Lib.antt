@@ -1,17 +1,8 @@
-pub mod TableLaws
-pub mod MarksLaws
-pub mod FillLaws
-pub mod AreaLaws
-pub mod WordsLaws
-pub mod RowLaws
-pub mod FragmentsLaws
 pub mod RefusalLaws
-pub mod RulesLaws
 pub mod CallLaws
 pub mod InnerLaws
 pub mod SetUpLaws
 pub mod ViewLaws
-pub mod StaleLaws
 pub mod CleanLaws
 pub mod MissingLaws
 pub mod PlacingLaws

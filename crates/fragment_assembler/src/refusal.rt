@@ -1,21 +1,23 @@
 // The refusals of a fragment call, in the document's order.
-use crate::layout::MOST_FRAGMENTS;
-use crate::layout::PLACES;
-use crate::layout::ROOM;
-use crate::layout::ROW;
-use crate::layout::SIZE;
-use crate::layout::TABLE;
-use crate::layout::UNIT;
+use assembly_record::layout::PLACES;
+use assembly_record::layout::ROOM;
+use assembly_record::layout::ROW;
+use assembly_record::layout::SIZE;
+use assembly_record::layout::TABLE;
+use assembly_record::layout::UNIT;
 ghost use mathlib.Core.Path.{_≡_};
 ghost use mathlib.Core.List.{[]};
-ghost use Prim.Native.Nat.{_<_, _≤_};
+ghost use Prim.Native.Nat.{_<_};
 ghost use lib.ListN.{length};
 ghost use Rattle.sequence_number.specs.Number.{top};
-ghost use Rattle.fragment_assembler.specs.Table.{find};
-ghost use Rattle.fragment_assembler.specs.Fragments.{fragments};
+ghost use Rattle.assembly_record.specs.Table.{find};
+ghost use Rattle.assembly_record.specs.Fragments.{fragments};
 ghost use Rattle.fragment_assembler.specs.Refusal.{refusal, runRefusal, callOf};
-ghost use Rattle.fragment_assembler.specs.Words.{placesOf, stateOf};
-ghost use Rattle.fragment_assembler.specs.Rules.{Good};
+ghost use Rattle.assembly_record.specs.Words.{placesOf, stateOf};
+ghost use Rattle.assembly_record.specs.Rules.{Good};
+
+// The most fragments of a sample.
+const MOST_FRAGMENTS: usize = 256;
 
 // F, how many fragments a sample of d bytes has.
 pub(crate) fn count_of(d: u64, f: u64) -> usize

@@ -9,9 +9,9 @@ use Rattle.proxy_record.specs.State.{begun, changed}
 use Rattle.proxy_core.specs.Calls.{noted, moveOn, discard, settled, capped, ended, receivedAt, received, without, skipped, putEach, rangeAt, irrelevantRange}
 use Rattle.proxy_core.proofs.RangeLaws.{gone, rangeIn, each-is}
 use Rattle.fragment_assembler.specs.Call.{fragment}
-use Rattle.fragment_assembler.specs.Fragments.{fragments}
+use Rattle.assembly_record.specs.Fragments.{fragments}
 use Rattle.fragment_assembler.specs.Refusal.{rows}
-use Rattle.fragment_assembler.specs.Table.{has}
+use Rattle.assembly_record.specs.Table.{has}
 use Rattle.known_values.specs.Table.{KnownValues}
 
 -- P10: a thousand numbers are put as one run

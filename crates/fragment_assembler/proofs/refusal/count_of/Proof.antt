@@ -1,6 +1,6 @@
 -- `fragment_assembler::refusal::count_of` meets its contract: the quotient is the definition. Assumes nothing.
 use borrow.Author.Needs.{needs}
-use Rattle.fragment_assembler.specs.Fragments.{fragments}
+use Rattle.assembly_record.specs.Fragments.{fragments}
 use Rattle.fragment_assembler.proofs.refusal.count_of.Statement.{statement}
 use Rattle.fragment_assembler.proofs.refusal.count_of.Tie as tie
 

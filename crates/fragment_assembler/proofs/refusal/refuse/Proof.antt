@@ -6,13 +6,13 @@ use mathlib.Core.List.{[]}
 use lib.ListN.{length, getD}
 use borrow.Author.Needs.{needs}
 use Rattle.fragment_assembler.proofs.RefusalLaws.{call-known, call-13, call-4, call-6, call-7, call-8, call-9, call-opens}
-use Rattle.fragment_assembler.proofs.RulesLaws.{good-size}
-use Rattle.fragment_assembler.proofs.WordsLaws.{size-at, length-places}
-use Rattle.fragment_assembler.specs.Fragments.{fragments}
+use Rattle.assembly_record.proofs.RulesLaws.{good-size}
+use Rattle.assembly_record.proofs.WordsLaws.{size-at, length-places}
+use Rattle.assembly_record.specs.Fragments.{fragments}
 use Rattle.fragment_assembler.specs.Refusal.{Call, callOf, runRefusal, refusal}
-use Rattle.fragment_assembler.specs.State.{at}
-use Rattle.fragment_assembler.specs.Table.{find}
-use Rattle.fragment_assembler.specs.Words.{stateOf, placesOf}
+use Rattle.assembly_record.specs.State.{at}
+use Rattle.assembly_record.specs.Table.{find}
+use Rattle.assembly_record.specs.Words.{stateOf, placesOf}
 use Rattle.fragment_assembler.proofs.refusal.refuse.Statement.{statement}
 use Rattle.fragment_assembler.proofs.refusal.refuse.Tie as tie
 

@@ -2,7 +2,7 @@
 use native.Mathlib.Omega.{arith}
 use borrow.Author.Needs.{needs}
 use Rattle.fragment_assembler.proofs.RefusalLaws.{run-10, run-11, run-12, run-passes}
-use Rattle.fragment_assembler.specs.Fragments.{fragments}
+use Rattle.assembly_record.specs.Fragments.{fragments}
 use Rattle.fragment_assembler.proofs.refusal.refuse_run.Statement.{statement}
 use Rattle.fragment_assembler.proofs.refusal.refuse_run.Tie as tie
 

@@ -3,7 +3,7 @@ use native.Mathlib.Omega.{arith}
 use mathlib.Core.Bool.{true, false}
 use borrow.Author.Needs.{needs}
 use Rattle.fragment_assembler.proofs.InnerLaws.{close-size, close-few, ends-whole, close-test, ends-not, ends-kept}
-use Rattle.fragment_assembler.proofs.WordsLaws.{number-at, size-at}
+use Rattle.assembly_record.proofs.WordsLaws.{number-at, size-at}
 use Rattle.fragment_assembler.proofs.settle.close.Statement.{statement}
 use Rattle.fragment_assembler.proofs.settle.close.Tie as tie
 
