@@ -6,6 +6,7 @@ pub mod AreaLaws
 pub mod WordsLaws
 pub mod RowLaws
 pub mod FragmentsLaws
+pub mod FirstGapLaws
 pub mod RulesLaws
 pub mod StaleLaws
 pub mod SweepLaws

@@ -1,17 +1,14 @@
 -- The marks of a place: 256 bits in four words of 64, bit j, from the low end of word 0, for fragment j + 1. Assumes nothing.
-use Prim.Native.Nat.{ℕ, zero, suc, _+_, _*_, _-_, _/_, _%_, _^_}
+use Prim.Native.Nat.{ℕ, zero, suc, _+_, _/_, _%_, _^_}
 use mathlib.Core.Bool.{Bool, true, cond, _&&_}
 use mathlib.Core.List.{List, [], _∷_, _++_}
 use lib.ListN.{getD, set}
 use lib.Dec.{ltb, leb, eqb}
+use Rattle.sequence_number.specs.Bitmap.{withBit}
 
 -- whether bit j is set
 unfoldable pub marked : List ℕ → ℕ → Bool
 marked m j = eqb (getD m (j / 64) 0 / 2 ^ (j % 64) % 2) 1
-
--- a word with bit b set, whether it was or not
-abbrev pub withBit : ℕ → ℕ → ℕ
-withBit w b = w + (1 - w / 2 ^ b % 2) * 2 ^ b
 
 -- bit j set
 unfoldable pub mark : List ℕ → ℕ → List ℕ

@@ -1,9 +1,11 @@
 // The marks of a place: which of its fragments have come.
+use crate::layout::MARK_WORDS;
 ghost use mathlib.Core.Path.{_≡_};
 ghost use Prim.Native.Nat.{_+_, _<_, _≤_};
 ghost use lib.ListN.{length};
 ghost use Rattle.sequence_number.specs.Lent.{over};
-ghost use Rattle.assembly_record.specs.Marks.{marked, markRun, all, gaps};
+ghost use Rattle.assembly_record.specs.Marks.{marked, markRun, gaps};
+ghost use Rattle.assembly_record.specs.Rows.{FirstGap};
 
 // The n marks from k, counted from 0, are set.
 pub fn mark_run(m: &mut [u64], k: usize, n: usize)
@@ -31,19 +33,20 @@ fn is_marked(m: &[u64], j: usize) -> bool
     (x >> b) % 2 == 1
 }
 
-// Whether the first n marks are set. The last is asked first: fragments mostly come in order, and then it is the one that is missing.
-pub fn is_complete(m: &[u64], n: usize) -> bool
-    requires { ⌜ (n ≤ 256) × (length (now m) ≡ 4) ⌝ }
-    ensures { λ r. ⌜ r ≡ all (marked (now (m .entry))) n ⌝ }
+// How many marks are set before the first that is not.
+pub fn first_gap(m: &[u64]) -> usize
+    requires { ⌜ length (now m) ≡ 4 ⌝ }
+    ensures { λ r. ⌜ FirstGap (now (m .entry)) r ⌝ }
 {
-    let mut i = n;
-    while 0 < i {
-        i -= 1;
-        if !is_marked(m, i) {
-            return false;
+    let mut i = 0;
+    while i < MARK_WORDS {
+        let x = !m[i];
+        if x != 0 {
+            return 64 * i + u64::trailing_zeros(x) as usize;
         }
+        i += 1;
     }
-    true
+    64 * i
 }
 
 // How many of the first n marks are not set.

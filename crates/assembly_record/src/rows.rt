@@ -6,15 +6,16 @@ use crate::layout::ROW;
 use crate::layout::SIZE;
 use crate::layout::TABLE;
 use crate::layout::TIME;
-use crate::marks::is_complete;
+use crate::layout::UNIT;
+use crate::marks::first_gap;
 use crate::marks::mark_run;
 ghost use mathlib.Core.Path.{_≡_};
 ghost use Prim.Native.Nat.{_+_, _<_, _≤_};
-ghost use lib.ListN.{length, set, replicate};
+ghost use lib.ListN.{length, getD, set, replicate};
 ghost use Rattle.assembly_record.specs.State.{free, at};
-ghost use Rattle.assembly_record.specs.Marks.{marked, all};
+ghost use Rattle.assembly_record.specs.Fragments.{isWhole};
 ghost use Rattle.assembly_record.specs.Words.{placeOf, placesOf};
-ghost use Rattle.assembly_record.specs.Rows.{Became, openedRow, ran};
+ghost use Rattle.assembly_record.specs.Rows.{Became, openedRow, ran, Counts};
 
 pub fn wipe(d: &mut [u64])
     ensures { λ _. ⌜ now (d .exit) ≡ replicate (length (now (d .entry))) 0 ⌝ }
@@ -74,12 +75,14 @@ pub fn wipe_at(t: &mut [u64], seat: usize)
     wipe(&mut t[b..e]);
 }
 
-// Whether the first n fragments of place `seat` have come.
-pub fn whole_at(t: &[u64], seat: usize, n: usize) -> bool
-    requires { ⌜ (length (now t) ≡ 906) × ((seat < 129) × (n ≤ 256)) ⌝ }
-    ensures { λ r. ⌜ r ≡ all (marked (at (placesOf (now (t .entry))) seat .marks)) n ⌝ }
+// Whether all fragments of place `seat` have come: those before the first gap reach the sample's end.
+pub fn whole_at(t: &[u64], seat: usize) -> bool
+    requires { ⌜ Counts (now t) seat ⌝ }
+    ensures { λ r. ⌜ r ≡ isWhole (getD (now (t .entry)) 0 0) (at (placesOf (now (t .entry))) seat) ⌝ }
 {
     let b = TABLE + ROW * seat + MARKS;
     let e = b + MARK_WORDS;
-    is_complete(&t[b..e], n)
+    let come = first_gap(&t[b..e]) as u64;
+    let d = t[TABLE + ROW * seat + SIZE];
+    d <= come * t[UNIT]
 }

@@ -79,17 +79,6 @@ module _ (w : List ℕ) (seat : ℕ) (o : Bool) (h : Closes w seat o) where
   pub close-size : getD w (3 + 7 * seat + 1) 0 ≤ 65536
   close-size = omega (arith, size-at w seat (h .within), h .size)
 
-  -- the code's count of fragments, and its test of the marks
-  module _ (n : ℕ) (e : n ≡ fragments (getD w (3 + 7 * seat + 1) 0) (getD w 0 0)) where
-    counted : n ≡ fragments (at (placesOf w) seat .size) (getD w 0 0)
-    counted = e ∙ ap (λ (x : ℕ). fragments x (getD w 0 0)) (size-at w seat (h .within))
-
-    pub close-few : n ≤ 256
-    close-few = omega (arith, counted, h .few)
-
-    pub close-test : (r b : Bool) → r ≡ all (marked (at (placesOf w) seat .marks)) n → r ≡ b → isWhole (getD w 0 0) (at (placesOf w) seat) ≡ b
-    close-test r b k t = ap (all (marked (at (placesOf w) seat .marks))) (sym counted) ∙ sym k ∙ t
-
 -- a place that was stored at the seat already does not count
 finish-over : (a : Assembler) (i : ℕ) (q p : Place) (l l′ : List ℕ) → finish (withPlaces a (set (a .places) i q)) (workOf i p l) ≡ finish a (workOf i p l′)
 unfolding finish

@@ -1,5 +1,4 @@
 // Blocks put together from fragments: rustdds 0.15.1, src/rtps/fragment_assembler.rs. The record is lent as words, and a block lies in a place of the lent area.
-use crate::refusal::count_of;
 use crate::settle::take_frags;
 use assembly_record::clean::how_many;
 use assembly_record::clean::list;
@@ -21,9 +20,11 @@ use assembly_record::table::seek;
 use sequence_number::number::number_of;
 ghost use mathlib.Core.Path.{_≡_};
 ghost use mathlib.Core.List.{_∷_};
+ghost use Prim.Native.Nat.{_<_};
 ghost use lib.ListN.{replicate};
 ghost use lib.ListN as lists;
 ghost use Rattle.sequence_number.specs.Number.{numberOf};
+ghost use Rattle.assembly_record.specs.Fragments.{fragments};
 ghost use Rattle.assembly_record.specs.Table.{inAssembly, count};
 ghost use Rattle.assembly_record.specs.Words.{stateOf, bit};
 ghost use Rattle.fragment_assembler.specs.View.{shown};
@@ -174,6 +175,16 @@ pub fn is_partially_received(t: &[u64], number: i64) -> bool
     }
     let at = seek(t, n);
     at < PLACES
+}
+
+// F, how many fragments a sample of d bytes has.
+fn count_of(d: u64, f: u64) -> usize
+    requires { ⌜ (0 < f) × ((f < 65536) × (d < 4294967296)) ⌝ }
+    ensures { λ r. ⌜ r ≡ fragments d f ⌝ }
+{
+    let x = d as usize;
+    let y = f as usize;
+    (x + (y - 1)) / y
 }
 
 // The missing fragments of a number, numbered from 1, written to the lent list, rising; none of a number that is not in assembly.

@@ -1,6 +1,5 @@
 // A run put into its place, and the end of a call: returned, dropped or kept.
 use crate::Answer;
-use crate::refusal::count_of;
 use crate::refusal::refuse;
 use assembly_record::area::clear_at;
 use assembly_record::area::copy_at;
@@ -54,8 +53,7 @@ fn close(t: &mut [u64], seat: usize, opened: bool) -> Answer
     let b = TABLE + ROW * seat;
     let number = t[b];
     let d = t[b + SIZE];
-    let n = count_of(d, t[UNIT]);
-    if whole_at(t, seat, n) {
+    if whole_at(t, seat) {
         wipe_at(t, seat);
         return Answer::Returned {
             number,

@@ -1,10 +1,10 @@
--- `assembly_record::rows::whole_at` meets its contract: the part that is lent is the place's marks. Assumes nothing.
-use Prim.Native.Nat.{ℕ}
-use mathlib.Core.Path.{ap, _∙_}
-use mathlib.Core.List.{List}
+-- `assembly_record::rows::whole_at` meets its contract: the part that is lent is the place's marks, and those before their first gap cover the sample
+-- where the place is whole. Assumes nothing.
+use native.Mathlib.Omega.{arith}
+use native.Mathlib.Nat.{mul-le-mul-right}
+use lib.ListN.{getD}
 use borrow.Author.Needs.{needs}
-use Rattle.assembly_record.proofs.WordsLaws.{marks-at}
-use Rattle.assembly_record.specs.Marks.{all, marked}
+use Rattle.assembly_record.proofs.FirstGapLaws.{whole-counted}
 use Rattle.assembly_record.proofs.rows.whole_at.Statement.{statement}
 use Rattle.assembly_record.proofs.rows.whole_at.Tie as tie
 
@@ -20,25 +20,48 @@ add-b-2 c = search needs
 add-e : tie.Need-add-e
 add-e c = search needs
 
-mul-is-complete : tie.Need-mul-is-complete
-mul-is-complete c = search needs
+mul-first-gap : tie.Need-mul-first-gap
+mul-first-gap c = search needs
 
-sub-is-complete : tie.Need-sub-is-complete
-sub-is-complete c = search needs
+sub-first-gap : tie.Need-sub-first-gap
+sub-first-gap c = search needs
 
-part-is-complete-start : tie.Need-part-is-complete-start
-part-is-complete-start c = search needs
+part-first-gap-start : tie.Need-part-first-gap-start
+part-first-gap-start c = search needs
 
-part-is-complete-end : tie.Need-part-is-complete-end
-part-is-complete-end c = search needs
+part-first-gap-end : tie.Need-part-first-gap-end
+part-first-gap-end c = search needs
 
-is-complete-requires : tie.Need-is-complete-requires
-is-complete-requires c κs = search needs
+first-gap-requires : tie.Need-first-gap-requires
+first-gap-requires c κs = search needs
+
+mul-d : tie.Need-mul-d
+mul-d c = search needs
+
+add-d : tie.Need-add-d
+add-d c = search needs
+
+add-d-2 : tie.Need-add-d-2
+add-d-2 c = search needs
+
+mul-d-2 : tie.Need-mul-d-2
+mul-d-2 c = search needs
+
+shared-slice-read-d : tie.Need-shared-slice-read-d
+shared-slice-read-d c = search needs
+
+shared-slice-read-result : tie.Need-shared-slice-read-result
+shared-slice-read-result c = search needs
+
+mul-result : tie.Need-mul-result
+mul-result c =
+    let s = c .before .before .before .before .before in
+    record { fits = omega (arith, mul-le-mul-right (getD (s .args .t .now) 0 0) (c .before .before .first-gap .ensures .most), s .pre .unit) }
 
 returns : tie.Need-returns
 returns c =
-    let s = c .before .before .before in
-    c .is-complete .ensures ∙ ap (λ (m : List ℕ). all (marked m) (s .args .n)) (marks-at (s .args .t .now) (s .args .seat) (s .pre .1 .0))
+    let s = c .before .before .before .before .before in
+    whole-counted (s .args .t .now) (s .args .seat) _ (s .pre) (c .before .before .first-gap .ensures)
 
 pub whole-at-spec : {M : Type 1} → statement M
 whole-at-spec =
@@ -48,9 +71,16 @@ whole-at-spec =
     add-b
     add-b-2
     add-e
-    mul-is-complete
-    sub-is-complete
-    part-is-complete-start
-    part-is-complete-end
-    is-complete-requires
+    mul-first-gap
+    sub-first-gap
+    part-first-gap-start
+    part-first-gap-end
+    first-gap-requires
+    mul-d
+    add-d
+    add-d-2
+    mul-d-2
+    shared-slice-read-d
+    shared-slice-read-result
+    mul-result
     returns)

@@ -1,8 +1,8 @@
--- `fragment_assembler::refusal::count_of` meets its contract: the quotient is the definition. Assumes nothing.
+-- `fragment_assembler::count_of` meets its contract: the quotient is the definition. Assumes nothing.
 use borrow.Author.Needs.{needs}
 use Rattle.assembly_record.specs.Fragments.{fragments}
-use Rattle.fragment_assembler.proofs.refusal.count_of.Statement.{statement}
-use Rattle.fragment_assembler.proofs.refusal.count_of.Tie as tie
+use Rattle.fragment_assembler.proofs.count_of.Statement.{statement}
+use Rattle.fragment_assembler.proofs.count_of.Tie as tie
 
 sub-result : tie.Need-sub-result
 sub-result c = search needs
