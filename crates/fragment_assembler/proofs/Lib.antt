@@ -8,4 +8,3 @@ pub mod MissingLaws
 pub mod PlacingLaws
 pub mod Promises
 pub mod Determined
-pub mod KnownValues

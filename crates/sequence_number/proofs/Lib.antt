@@ -9,10 +9,11 @@ pub mod WidthLaws
 pub mod BitLaws
 pub mod PositionLaws
 pub mod SetWireLaws
+pub mod WordBitLaws
 pub mod WalkLaws
+pub mod ClimbLaws
 pub mod FitLaws
 pub mod MakeLaws
 pub mod MemberLaws
 pub mod RoundTrip
-pub mod KnownValues
 pub mod Determined
