@@ -568,7 +568,8 @@ impl Recorder {
         self.look().base as i64
     }
 
-    /// A count handed out. After 2,147,483,647, where the original overflows, the answer is document 01's.
+    /// A count handed out and the one after it, for each of the port's two forms. At 2,147,483,647 the original overflows,
+    /// and the answer is document 01's.
     pub fn count(&mut self, count: i32) {
         let mut oracle = Oracle::new();
         let lines = [
@@ -581,7 +582,7 @@ impl Recorder {
             _ if count == i32::MAX => vec![count as u64, i64::from(i32::MIN) as u64],
             _ => panic!("no count after {count}"),
         };
-        self.store(0x50, &[i64::from(count) as u64], &answer);
+        self.store(0x50, &[i64::from(count) as u64], &answer.repeat(2));
     }
 }
 
