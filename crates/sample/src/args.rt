@@ -1,25 +1,7 @@
-// The words of a call as the values that it takes. A caller asks first whether they fit: what does not is no call.
-ghost use mathlib.Core.Path.{_≡_};
+// The words of a call as the values that it takes. A word is cut to its type.
 ghost use Prim.Native.Nat.{_+_, _≤_};
 ghost use lib.ListN.{length};
 use sequence_number::ByteOrder;
-
-// The largest fragment number, and the largest word of a set.
-pub(crate) const MOST_WORD: u64 = 4294967295;
-
-pub(crate) const MOST_BYTE: u64 = 255;
-
-// Whether the words from a place on are at most so large.
-pub(crate) fn fit(a: &[u64], from: usize, most: u64) -> bool {
-    let mut i = from;
-    while i < a.len() {
-        if most < a[i] {
-            return false;
-        }
-        i += 1;
-    }
-    true
-}
 
 // The signed number whose two's complement bits are u.
 pub(crate) fn signed(u: u64) -> i64 {
@@ -53,19 +35,16 @@ pub(crate) fn order(u: u64) -> ByteOrder {
 pub(crate) fn eight(a: &[u64], at: usize) -> [u32; 8]
     requires { ⌜ at + 8 ≤ length (now a) ⌝ }
 {
-    [
-        low_word(a[at]),
-        low_word(a[at + 1]),
-        low_word(a[at + 2]),
-        low_word(a[at + 3]),
-        low_word(a[at + 4]),
-        low_word(a[at + 5]),
-        low_word(a[at + 6]),
-        low_word(a[at + 7]),
-    ]
+    let mut words = [0u32; 8];
+    let mut i: usize = 0;
+    while i < 8 {
+        words[i] = low_word(a[at + i]);
+        i += 1;
+    }
+    words
 }
 
-// The words as bytes, to the front of as many lent ones.
+// The words as bytes, to the front of lent ones.
 pub(crate) fn to_bytes(a: &[u64], out: &mut [u8])
     requires { ⌜ length (now a) ≤ length (now out) ⌝ }
 {
@@ -76,7 +55,7 @@ pub(crate) fn to_bytes(a: &[u64], out: &mut [u8])
     }
 }
 
-// The words as fragment numbers, to the front of as many lent ones.
+// The words as fragment numbers, to the front of lent ones.
 pub(crate) fn to_words(a: &[u64], out: &mut [u32])
     requires { ⌜ length (now a) ≤ length (now out) ⌝ }
 {
@@ -87,7 +66,7 @@ pub(crate) fn to_words(a: &[u64], out: &mut [u32])
     }
 }
 
-// The words as signed numbers, to the front of as many lent ones.
+// The words as signed numbers, to the front of lent ones.
 pub(crate) fn to_signed(a: &[u64], out: &mut [i64])
     requires { ⌜ length (now a) ≤ length (now out) ⌝ }
 {

@@ -1,34 +1,11 @@
-// A line, taken byte by byte into words: lower-case hexadecimal of at most 64 bits, one space between them.
+// A line as words: lower-case hexadecimal with one space between them.
 ghost use Prim.Native.Nat.{_≤_, _<_};
 ghost use lib.ListN.{length};
-use crate::out::wide;
 
-// A line as far as it was taken: its whole words, the word in the making, whether that has a digit, whether the line reads.
-pub(crate) struct Reading {
-    count: usize,
-    value: u64,
-    some: bool,
-    reads: bool,
-}
-
-// A line of which nothing was taken.
-pub(crate) fn start() -> Reading {
-    Reading {
-        count: 0,
-        value: 0,
-        some: false,
-        reads: true,
-    }
-}
-
-// A line that does not read.
-fn spoilt() -> Reading {
-    Reading {
-        count: 0,
-        value: 0,
-        some: true,
-        reads: false,
-    }
+// How many words a line has, and where the next one starts.
+pub(crate) struct Line {
+    pub(crate) count: usize,
+    pub(crate) next: usize,
 }
 
 // What a digit stands for, or 16 for a byte that is none.
@@ -50,61 +27,38 @@ fn digit(c: u8) -> u64
     16
 }
 
-fn add_digit(r: Reading, d: u64) -> Reading
-    requires { ⌜ d < 16 ⌝ }
+// A word with one more digit; those past 64 bits fall off at the front.
+fn more(value: u64, d: u64) -> u64
+    requires { ⌜ d ≤ 16 ⌝ }
 {
-    let value = r.value;
-    if 0x0fff_ffff_ffff_ffff < value {
-        return spoilt();
-    }
-    Reading {
-        count: r.count,
-        value: value * 16 + d,
-        some: true,
-        reads: r.reads,
-    }
+    (value % 1152921504606846976) * 16 + d % 16
 }
 
-fn end_word(words: &mut [u64], r: Reading) -> Reading {
-    if !r.some {
-        return spoilt();
-    }
-    let count = r.count;
-    if words.len() <= count {
-        return spoilt();
-    }
-    words[count] = r.value;
-    Reading {
-        count: count + 1,
-        value: 0,
-        some: false,
-        reads: r.reads,
-    }
-}
-
-// A byte that is no line feed.
-pub(crate) fn take(words: &mut [u64], r: Reading, byte: u8) -> Reading {
-    if byte == b' ' {
-        return end_word(words, r);
-    }
-    let d = digit(byte);
-    if d == 16 {
-        return spoilt();
-    }
-    add_digit(r, d)
-}
-
-// The end of a line: how many words it has, 0 where it does not read.
-pub(crate) fn close(words: &mut [u64], r: Reading) -> usize
-    ensures { λ n. ⌜ n ≤ length (now (words .exit)) ⌝ }
+// The line from a place on, its words to the front of the lent ones. No words: a byte that is no digit, or too many.
+pub(crate) fn read_line(s: &[u8], at: usize, words: &mut [u64]) -> Line
+    requires { ⌜ at < length (now s) ⌝ }
+    ensures { λ l. ⌜ (l .count ≤ length (now (words .exit))) × ((at < l .next) × (l .next ≤ length (now (s .entry)))) ⌝ }
 {
-    let last = end_word(words, r);
-    if !last.reads {
-        return 0;
+    let mut i = at;
+    let mut count = 0;
+    let mut value: u64 = 0;
+    while i < s.len() {
+        let c = s[i];
+        i += 1;
+        let d = digit(c);
+        if d < 16 {
+            value = more(value, d);
+            continue;
+        }
+        if words.len() <= count {
+            return Line { count: 0, next: i };
+        }
+        words[count] = value;
+        value = 0;
+        count += 1;
+        if c != b' ' {
+            return Line { count, next: i };
+        }
     }
-    let n = last.count;
-    if words.len() < n {
-        return 0;
-    }
-    n
+    Line { count: 0, next: i }
 }

@@ -4,139 +4,104 @@ mod args;
 mod assembler;
 mod counter;
 mod digest;
-mod fragment;
 mod line;
 mod out;
 mod proxy;
-mod sequence;
-mod told;
+mod sets;
 
 ghost use mathlib.Core.Path.{_≡_};
+ghost use Prim.Native.Nat.{_<_, _≤_};
 ghost use lib.ListN.{length};
 ghost use Rattle.proxy_record.specs.Record.{size};
 ghost use Rattle.proxy_record.specs.Record.{Good as GoodProxy};
 ghost use Rattle.fragment_assembler.specs.Rules.{Good as GoodAssembler};
-use crate::line::Reading;
+use crate::line::read_line;
 use crate::out::no_call;
 use fragment_assembler::Start;
 use libc::STDIN_FILENO;
 
+// Whether a call with this code takes so many words.
+fn takes(code: u64, n: usize) -> bool {
+    match code {
+        0x10 | 0x20 => n == 3,
+        0x11 | 0x12 | 0x16 | 0x21 | 0x22 | 0x26 => 1 <= n,
+        0x13 | 0x14 | 0x23 | 0x24 => n == 12,
+        0x15 | 0x25 => n == 10,
+        0x30 | 0x33 | 0x4a => n == 3,
+        0x31 => n == 4,
+        0x32 => 7 <= n,
+        0x34 | 0x35 | 0x42 | 0x44 => n == 2,
+        0x36 | 0x41 | 0x43 | 0x45 | 0x46 | 0x47 | 0x50 => n == 1,
+        0x37 | 0x40 | 0x48 | 0x49 => n == 0,
+        _ => false,
+    }
+}
+
 // A call, made and answered.
-fn answer(proxy: &mut [u64], assembler: &mut [u64], area: &mut [u8], words: &[u64])
+fn answer(proxy: &mut [u64], assembler: &mut [u64], area: &mut [u8], code: u64, a: &[u64])
     requires { ⌜ GoodProxy (now proxy) × GoodAssembler (now assembler) ⌝ }
     ensures { λ _. ⌜ GoodProxy (now (proxy .exit)) × GoodAssembler (now (assembler .exit)) ⌝ }
 {
-    if words.len() == 0 {
+    if !takes(code, a.len()) {
         return no_call();
     }
-    let code = words[0];
     let group = code / 16;
-    if group == 1 {
-        return sequence::call(code, &words[1..]);
-    }
-    if group == 2 {
-        return fragment::call(code, &words[1..]);
-    }
     if group == 3 {
-        return assembler::call(assembler, area, code, &words[1..]);
+        return assembler::call(assembler, area, code, a);
     }
     if group == 4 {
-        return proxy::call(proxy, code, &words[1..]);
+        return proxy::call(proxy, code, a);
     }
-    counter::call(code, &words[1..]);
+    if a.len() == 0 {
+        return no_call();
+    }
+    if group == 5 {
+        return counter::call(a[0]);
+    }
+    sets::call(code, a);
 }
 
-// One byte: a line feed ends a line, which is answered.
-fn step(
+// The line that starts at a place, answered: where the next one starts.
+fn answer_line(
     proxy: &mut [u64],
     assembler: &mut [u64],
     area: &mut [u8],
     words: &mut [u64],
-    r: Reading,
-    byte: u8,
-) -> Reading
-    requires { ⌜ GoodProxy (now proxy) × GoodAssembler (now assembler) ⌝ }
-    ensures { λ _. ⌜ GoodProxy (now (proxy .exit)) × GoodAssembler (now (assembler .exit)) ⌝ }
+    input: &[u8],
+    at: usize,
+) -> usize
+    requires { ⌜ GoodProxy (now proxy) × (GoodAssembler (now assembler) × (at < length (now input))) ⌝ }
+    ensures { λ r. ⌜ GoodProxy (now (proxy .exit)) × (GoodAssembler (now (assembler .exit)) × ((at < r) × (r ≤ length (now (input .entry))))) ⌝ }
 {
-    if byte != b'\n' {
-        return line::take(words, r, byte);
+    let l = read_line(input, at, words);
+    let n = l.count;
+    let next = l.next;
+    if n == 0 {
+        no_call();
+        return next;
     }
-    let n = line::close(words, r);
-    answer(proxy, assembler, area, &words[..n]);
-    line::start()
+    answer(proxy, assembler, area, words[0], &words[1..n]);
+    next
 }
 
-// The bytes of a piece of input.
-fn steps(
+// All lines.
+fn answer_lines(
     proxy: &mut [u64],
     assembler: &mut [u64],
     area: &mut [u8],
     words: &mut [u64],
-    r: Reading,
-    piece: &[u8],
-) -> Reading
-    requires { ⌜ GoodProxy (now proxy) × GoodAssembler (now assembler) ⌝ }
-    ensures { λ _. ⌜ GoodProxy (now (proxy .exit)) × GoodAssembler (now (assembler .exit)) ⌝ }
-{
-    let mut reading = r;
-    let mut i = 0;
-    while i < piece.len() {
-        reading = step(proxy, assembler, area, words, reading, piece[i]);
-        i += 1;
-    }
-    reading
-}
-
-// The input is at its end, or the line as far as it was taken.
-enum Turn {
-    Over,
-    Read(Reading),
-}
-
-// What a read gives.
-fn read_some(
-    proxy: &mut [u64],
-    assembler: &mut [u64],
-    area: &mut [u8],
-    words: &mut [u64],
-    r: Reading,
-    input: &mut [u8],
-) -> Turn
-    requires { ⌜ GoodProxy (now proxy) × GoodAssembler (now assembler) ⌝ }
-    ensures { λ _. ⌜ GoodProxy (now (proxy .exit)) × GoodAssembler (now (assembler .exit)) ⌝ }
-{
-    let got = libc::read(STDIN_FILENO, input);
-    if got <= 0 {
-        return Turn::Over;
-    }
-    let end = io::count(got, input);
-    Turn::Read(steps(proxy, assembler, area, words, r, &input[..end]))
-}
-
-// All input. A proved loop has to end, and nothing says that the input does: no run uses its turns up.
-fn read_all(
-    proxy: &mut [u64],
-    assembler: &mut [u64],
-    area: &mut [u8],
-    words: &mut [u64],
-    input: &mut [u8],
+    input: &[u8],
 )
     requires { ⌜ GoodProxy (now proxy) × GoodAssembler (now assembler) ⌝ }
 {
-    let mut reading = line::start();
-    let mut turns = u64::MAX;
-    while turns > 0 {
-        let turn = read_some(proxy, assembler, area, words, reading, input);
-        let Turn::Read(next) = turn else {
-            return;
-        };
-        reading = next;
-        turns -= 1;
+    let mut at = 0;
+    while at < input.len() {
+        at = answer_line(proxy, assembler, area, words, input, at);
     }
 }
 
 // Both records from set-up, so that they are good from the first line on.
-fn start(
+fn run(
     proxy: &mut [u64],
     assembler: &mut [u64],
     area: &mut [u8],
@@ -149,7 +114,8 @@ fn start(
     let Start::Ready = fragment_assembler::set_up(assembler, 1, true, 1) else {
         return;
     };
-    read_all(proxy, assembler, area, words, input);
+    let n = io::read_full(STDIN_FILENO, input);
+    answer_lines(proxy, assembler, area, words, &input[..n]);
 }
 
 fn main() {
@@ -157,8 +123,8 @@ fn main() {
     let mut assembler = [0u64; 906];
     let mut area = [0u8; 264200];
     let mut words = [0u64; 1200];
-    let mut input = io::large_buffer();
-    start(
+    let mut input = [0u8; 400000];
+    run(
         &mut proxy,
         &mut assembler,
         &mut area,

@@ -1,5 +1,6 @@
 // What is written: words in hexadecimal with a space between them, an answer a line. Negative numbers are two's complement.
 use libc::STDOUT_FILENO;
+use sequence_number::number::natural;
 
 // The first word of a line.
 pub(crate) fn first(n: u64) {
@@ -21,7 +22,36 @@ pub(crate) fn no_call() {
     io::write_all(STDOUT_FILENO, b"?\n");
 }
 
-pub(crate) fn wide(x: u8) -> u64 {
+// A line of one word.
+pub(crate) fn line(n: u64) {
+    first(n);
+    end();
+}
+
+// A line of one word, 1 for true.
+pub(crate) fn flag(b: bool) {
+    if b {
+        return line(1);
+    }
+    line(0);
+}
+
+// A line of two words.
+pub(crate) fn pair(a: u64, b: u64) {
+    first(a);
+    next(b);
+    end();
+}
+
+// A refusal, or 0 and how many were written.
+fn head(refusal: u64, count: u64) {
+    first(refusal);
+    if refusal == 0 {
+        next(count);
+    }
+}
+
+fn wide(x: u8) -> u64 {
     x as u64
 }
 
@@ -32,34 +62,53 @@ fn wide_word(x: u32) -> u64 {
 // A signed number's two's complement bits.
 pub(crate) fn bits_of(n: i64) -> u64 {
     if n < 0 {
-        return !((!n) as u64);
+        return !natural(!n);
     }
-    n as u64
+    natural(n)
 }
 
-// Lent output as a call left it: bytes.
+// The rest of a line: bytes.
 pub(crate) fn show_bytes(s: &[u8]) {
     let mut i = 0;
     while i < s.len() {
         next(wide(s[i]));
         i += 1;
     }
+    end();
 }
 
-// Lent output as a call left it: fragment numbers.
+// The rest of a line: fragment numbers, or a set's words.
 pub(crate) fn show_words(s: &[u32]) {
     let mut i = 0;
     while i < s.len() {
         next(wide_word(s[i]));
         i += 1;
     }
+    end();
 }
 
-// Lent output as a call left it: sequence numbers.
+// The rest of a line: sequence numbers.
 pub(crate) fn show_signed(s: &[i64]) {
     let mut i = 0;
     while i < s.len() {
         next(bits_of(s[i]));
         i += 1;
     }
+    end();
+}
+
+// A refusal, or 0 and how many were written; then the lent output as the call left it.
+pub(crate) fn bytes_line(refusal: u64, count: u64, s: &[u8]) {
+    head(refusal, count);
+    show_bytes(s);
+}
+
+pub(crate) fn words_line(refusal: u64, count: u64, s: &[u32]) {
+    head(refusal, count);
+    show_words(s);
+}
+
+pub(crate) fn signed_line(refusal: u64, count: u64, s: &[i64]) {
+    head(refusal, count);
+    show_signed(s);
 }

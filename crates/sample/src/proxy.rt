@@ -1,16 +1,17 @@
 // The calls on a writer proxy: codes 40 to 4a. One record serves from line to line.
 ghost use mathlib.Core.Path.{_≡_};
-ghost use Prim.Native.Nat.{_≤_};
 ghost use lib.ListN.{length};
 ghost use Rattle.proxy_record.specs.Record.{Good};
 use crate::args::signed;
 use crate::digest::words_digest;
 use crate::out::end;
 use crate::out::first;
+use crate::out::flag;
+use crate::out::line;
 use crate::out::next;
 use crate::out::no_call;
-use crate::out::show_signed;
-use crate::out::wide;
+use crate::out::pair;
+use crate::out::signed_line;
 use proxy_core::Report;
 use writer_proxy::irrelevant::irrelevant_changes_range;
 use writer_proxy::irrelevant::irrelevant_changes_up_to;
@@ -26,8 +27,8 @@ use writer_proxy::query::should_ignore_change;
 use writer_proxy::received::received_changes_add;
 use writer_proxy::set_up::set_up;
 
-// A refusal; or 0 and 0; or 0, 1 and the forced step.
-fn told_report(r: Report) {
+// A refusal; or 0 and 0; or 0, 1 and the forced step. Then the base and the digest of the record.
+fn told(r: Report, base: u64, digest: u64) {
     match r {
         Report::Done => {
             first(0);
@@ -39,28 +40,105 @@ fn told_report(r: Report) {
             next(old);
             next(new);
         }
-        Report::Refused(n) => first(wide(n)),
+        Report::Refused(k) => first(k as u64),
+    }
+    next(base);
+    next(digest);
+    end();
+}
+
+fn told_set_up(r: Report, digest: u64) {
+    match r {
+        Report::Done => return pair(0, digest),
+        Report::Forced(_, _) => return no_call(),
+        Report::Refused(k) => return pair(k as u64, digest),
     }
 }
 
-// What became of a call, the base after it, and the digest of the record.
-fn told(t: &[u64], r: Report)
+// 41 room: set-up on words that hold 90 each
+fn start_on(room: u64) {
+    let mut space = [90u64; 1000];
+    let lent: &mut [u64] = &mut space;
+    if (lent.len() as u64) < room {
+        return no_call();
+    }
+    let n = room as usize;
+    let r = set_up(&mut lent[..n]);
+    told_set_up(r, words_digest(&lent[..n]));
+}
+
+fn told_status(s: Status) {
+    match s {
+        Status::Untracked => return line(0),
+        Status::NotAvailable => return line(1),
+        Status::Received(time) => return pair(2, time),
+    }
+}
+
+fn told_last(l: Last) {
+    match l {
+        Last::Nothing => return line(0),
+        Last::Change(number, time) => return pair(number, time),
+    }
+}
+
+// 4a start end room
+fn list_missing(t: &[u64], a: &[u64])
+    requires { ⌜ Good (now t) × (length (now a) ≡ 3) ⌝ }
+{
+    let mut space = [90i64; 300];
+    let out: &mut [i64] = &mut space;
+    if (out.len() as u64) < a[2] {
+        return no_call();
+    }
+    let room = a[2] as usize;
+    match missing_seqnums(t, signed(a[0]), signed(a[1]), &mut out[..room]) {
+        Listing::Refused(k) => return signed_line(k as u64, 0, &out[..room]),
+        Listing::Listed(n) => return signed_line(0, n as u64, &out[..room]),
+    }
+}
+
+// 46 and 47 number; 48; 49; 4a
+fn ask(t: &[u64], code: u64, a: &[u64])
     requires { ⌜ Good (now t) ⌝ }
 {
-    told_report(r);
-    next(all_ackable_before(t));
-    next(words_digest(t));
-    end();
+    if a.len() == 1 {
+        if code == 0x46 {
+            return flag(should_ignore_change(t, signed(a[0])));
+        }
+        if code == 0x47 {
+            return told_status(change_status(t, signed(a[0])));
+        }
+    }
+    if a.len() == 3 {
+        return list_missing(t, a);
+    }
+    if code == 0x48 {
+        return told_last(last_change(t));
+    }
+    line(all_ackable_before(t));
 }
 
-fn told_set_up(t: &[u64], r: Report) {
-    match r {
-        Report::Done => first(0),
-        Report::Forced(_, _) => no_call(),
-        Report::Refused(n) => first(wide(n)),
+// 42 number time; 44 from until
+fn change_two(t: &mut [u64], code: u64, x: u64, y: u64) -> Report
+    requires { ⌜ Good (now t) ⌝ }
+    ensures { λ _. ⌜ Good (now (t .exit)) ⌝ }
+{
+    if code == 0x42 {
+        return received_changes_add(t, signed(x), y);
     }
-    next(words_digest(t));
-    end();
+    irrelevant_changes_range(t, signed(x), signed(y))
+}
+
+// 43 number; 45 smallest
+fn change_one(t: &mut [u64], code: u64, x: u64) -> Report
+    requires { ⌜ Good (now t) ⌝ }
+    ensures { λ _. ⌜ Good (now (t .exit)) ⌝ }
+{
+    if code == 0x43 {
+        return set_irrelevant_change(t, signed(x));
+    }
+    irrelevant_changes_up_to(t, signed(x))
 }
 
 // 40
@@ -69,165 +147,7 @@ fn start(t: &mut [u64])
     ensures { λ _. ⌜ Good (now (t .exit)) ⌝ }
 {
     let r = set_up(t);
-    told_set_up(t, r);
-}
-
-// 41 room: on words of its own, which hold 90 each
-fn start_on(room: u64, lent: &mut [u64]) {
-    if (lent.len() as u64) < room {
-        return no_call();
-    }
-    let n = room as usize;
-    let r = set_up(&mut lent[..n]);
-    told_set_up(&lent[..n], r);
-}
-
-// 42 number time
-fn receive(t: &mut [u64], number: u64, time: u64)
-    requires { ⌜ Good (now t) ⌝ }
-    ensures { λ _. ⌜ Good (now (t .exit)) ⌝ }
-{
-    let r = received_changes_add(t, signed(number), time);
-    told(t, r);
-}
-
-// 43 number
-fn set_irrelevant(t: &mut [u64], number: u64)
-    requires { ⌜ Good (now t) ⌝ }
-    ensures { λ _. ⌜ Good (now (t .exit)) ⌝ }
-{
-    let r = set_irrelevant_change(t, signed(number));
-    told(t, r);
-}
-
-// 44 from until
-fn set_range(t: &mut [u64], from: u64, until: u64)
-    requires { ⌜ Good (now t) ⌝ }
-    ensures { λ _. ⌜ Good (now (t .exit)) ⌝ }
-{
-    let r = irrelevant_changes_range(t, signed(from), signed(until));
-    told(t, r);
-}
-
-// 45 smallest
-fn set_up_to(t: &mut [u64], smallest: u64)
-    requires { ⌜ Good (now t) ⌝ }
-    ensures { λ _. ⌜ Good (now (t .exit)) ⌝ }
-{
-    let r = irrelevant_changes_up_to(t, signed(smallest));
-    told(t, r);
-}
-
-// 46 number
-fn ignore(t: &[u64], number: u64)
-    requires { ⌜ Good (now t) ⌝ }
-{
-    if should_ignore_change(t, signed(number)) {
-        first(1);
-    } else {
-        first(0);
-    }
-    end();
-}
-
-// 47 number
-fn status(t: &[u64], number: u64)
-    requires { ⌜ Good (now t) ⌝ }
-{
-    match change_status(t, signed(number)) {
-        Status::Untracked => first(0),
-        Status::NotAvailable => first(1),
-        Status::Received(time) => {
-            first(2);
-            next(time);
-        }
-    }
-    end();
-}
-
-// 48
-fn last(t: &[u64])
-    requires { ⌜ Good (now t) ⌝ }
-{
-    match last_change(t) {
-        Last::Nothing => first(0),
-        Last::Change(number, time) => {
-            first(1);
-            next(number);
-            next(time);
-        }
-    }
-    end();
-}
-
-// 4a start end room
-fn list_missing(t: &[u64], a: &[u64], out: &mut [i64])
-    requires { ⌜ Good (now t) × (length (now a) ≡ 3) ⌝ }
-{
-    if (out.len() as u64) < a[2] {
-        return no_call();
-    }
-    let room = a[2] as usize;
-    match missing_seqnums(t, signed(a[0]), signed(a[1]), &mut out[..room]) {
-        Listing::Refused(n) => first(wide(n)),
-        Listing::Listed(n) => {
-            first(0);
-            next(n as u64);
-        }
-    }
-    show_signed(&out[..room]);
-    end();
-}
-
-// A call that only asks.
-fn ask(t: &[u64], code: u64, a: &[u64])
-    requires { ⌜ Good (now t) ⌝ }
-{
-    if code == 0x4a {
-        if a.len() != 3 {
-            return no_call();
-        }
-        let mut out = [90i64; 300];
-        return list_missing(t, a, &mut out);
-    }
-    if code <= 0x47 {
-        if a.len() != 1 {
-            return no_call();
-        }
-        if code == 0x46 {
-            return ignore(t, a[0]);
-        }
-        return status(t, a[0]);
-    }
-    if a.len() != 0 {
-        return no_call();
-    }
-    if code == 0x48 {
-        return last(t);
-    }
-    if code == 0x49 {
-        first(all_ackable_before(t));
-        return end();
-    }
-    no_call();
-}
-
-// A call of one word.
-fn call_one(t: &mut [u64], code: u64, x: u64)
-    requires { ⌜ Good (now t) ⌝ }
-    ensures { λ _. ⌜ Good (now (t .exit)) ⌝ }
-{
-    if code == 0x41 {
-        let mut lent = [90u64; 1000];
-        return start_on(x, &mut lent);
-    }
-    if code == 0x43 {
-        return set_irrelevant(t, x);
-    }
-    if code == 0x45 {
-        return set_up_to(t, x);
-    }
-    no_call();
+    told_set_up(r, words_digest(t));
 }
 
 pub(crate) fn call(t: &mut [u64], code: u64, a: &[u64])
@@ -237,22 +157,16 @@ pub(crate) fn call(t: &mut [u64], code: u64, a: &[u64])
     if 0x45 < code {
         return ask(t, code, a);
     }
-    if a.len() == 1 {
-        return call_one(t, code, a[0]);
-    }
-    if a.len() == 2 {
-        if code == 0x42 {
-            return receive(t, a[0], a[1]);
-        }
-        if code == 0x44 {
-            return set_range(t, a[0], a[1]);
-        }
-        return no_call();
-    }
     if a.len() == 0 {
-        if code == 0x40 {
-            return start(t);
-        }
+        return start(t);
     }
-    no_call();
+    if code == 0x41 {
+        return start_on(a[0]);
+    }
+    if a.len() == 1 {
+        let r = change_one(t, code, a[0]);
+        return told(r, all_ackable_before(t), words_digest(t));
+    }
+    let r = change_two(t, code, a[0], a[1]);
+    told(r, all_ackable_before(t), words_digest(t));
 }

@@ -128,6 +128,17 @@ fn set_words(set: &Set) -> Vec<u64> {
     head.into_iter().chain(set.words.map(u64::from)).collect()
 }
 
+/// 0, how many bytes were taken, base, count and words, of `ok base count words ..`.
+fn told_set(taken: u64, tokens: &[String]) -> Vec<u64> {
+    let head = [0, taken, word(&tokens[0]), word(&tokens[1])];
+    [head.to_vec(), words32(&tokens[2])].concat()
+}
+
+/// A refusal, and the port's fixed rest: nothing taken, the empty set at 0.
+fn no_set(number: u64) -> Vec<u64> {
+    [vec![number], vec![0; 11]].concat()
+}
+
 /// A lent output of so many entries after a call that wrote these from its front.
 fn lent(room: usize, written: &[u64]) -> Vec<u64> {
     let mut entries = vec![u64::from(UNTOUCHED); room];
@@ -227,7 +238,7 @@ impl Recorder {
             let answer = listed(&said, room, |tokens| bytes(&tokens[0]));
             self.store(
                 kind as u64 * 16,
-                &[u64::from(!big), number as u64, room as u64],
+                &[u64::from(!big), room as u64, number as u64],
                 &answer,
             );
         }
@@ -247,11 +258,8 @@ impl Recorder {
         let line = format!("set.read {} {} {}", kind.name(), order_name(big), hex(input));
         let answer = match self.try_ask(&line) {
             None => return,
-            Some(Refused(number)) => vec![number],
-            Some(Accepted(tokens)) => {
-                let head = [0, word(&tokens[3]), word(&tokens[0]), word(&tokens[1])];
-                [head.to_vec(), words32(&tokens[2])].concat()
-            }
+            Some(Refused(number)) => no_set(number),
+            Some(Accepted(tokens)) => told_set(word(&tokens[3]), &tokens),
         };
         self.store(kind as u64 * 16 + 2, &with_bytes(&[u64::from(!big)], input), &answer);
     }
@@ -296,11 +304,8 @@ impl Recorder {
         let line = format!("set.make {} {base} {members}", kind.name());
         let answer = match self.try_ask(&line) {
             None => return,
-            Some(Refused(number)) => vec![number],
-            Some(Accepted(tokens)) => {
-                let head = [0, word(&tokens[0]), word(&tokens[1])];
-                [head.to_vec(), words32(&tokens[2])].concat()
-            }
+            Some(Refused(number)) => no_set(number),
+            Some(Accepted(tokens)) => told_set(0, &tokens),
         };
         let call: Vec<u64> = [base].iter().chain(list).map(|number| *number as u64).collect();
         self.store(kind as u64 * 16 + 6, &call, &answer);
@@ -544,7 +549,7 @@ impl Recorder {
         let tokens = self.tokens("px.dump A");
         let answer = match tokens[2].as_str() {
             "-" => vec![0],
-            time => vec![1, word(&tokens[1]), word(time)],
+            time => vec![word(&tokens[1]), word(time)],
         };
         self.store(0x48, &[], &answer);
     }
