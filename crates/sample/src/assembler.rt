@@ -56,15 +56,13 @@ fn start(t: &mut [u64], area: &mut [u8], a: &[u64])
 }
 
 // 31 room f mode p: set-up on words that hold 90 each
-fn start_on(a: &[u64])
+fn start_on(a: &[u64], lent: &mut [u64])
     requires { ⌜ length (now a) ≡ 4 ⌝ }
 {
-    let mut space = [90u64; 1000];
-    let lent: &mut [u64] = &mut space;
-    if (lent.len() as u64) < a[0] {
+    let n = a[0] as usize;
+    if lent.len() < n {
         return no_call();
     }
-    let n = a[0] as usize;
     match set_up(&mut lent[..n], low_half(a[1]), a[2] == 1, low_word(a[3])) {
         Start::Refused(k) => return pair(k as u64, words_digest(&lent[..n])),
         Start::Ready => return pair(0, words_digest(&lent[..n])),
@@ -141,18 +139,16 @@ fn take_fragment(t: &mut [u64], area: &mut [u8], a: &[u64], payload: &[u8])
 }
 
 // The same, its payload not yet bytes
-fn with_payload(t: &mut [u64], area: &mut [u8], a: &[u64])
+fn with_payload(t: &mut [u64], area: &mut [u8], a: &[u64], bytes: &mut [u8])
     requires { ⌜ Good (now t) × (7 ≤ length (now a)) ⌝ }
     ensures { λ _. ⌜ Good (now (t .exit)) ⌝ }
 {
-    let mut space = [0u8; 1200];
-    let bytes: &mut [u8] = &mut space;
-    let n = a.len();
+    let n = a.len() - 7;
     if bytes.len() < n {
         return no_call();
     }
-    to_bytes(a, bytes);
-    take_fragment(t, area, a, &bytes[7..n]);
+    to_bytes(&a[7..], bytes);
+    take_fragment(t, area, a, &bytes[..n]);
 }
 
 // 33 area place length
@@ -180,12 +176,10 @@ fn told_cleaned(c: Cleaned, digest: u64) {
 }
 
 // 34 cutoff room
-fn clean(t: &mut [u64], a: &[u64])
+fn clean(t: &mut [u64], a: &[u64], out: &mut [i64])
     requires { ⌜ Good (now t) × (length (now a) ≡ 2) ⌝ }
     ensures { λ _. ⌜ Good (now (t .exit)) ⌝ }
 {
-    let mut space = [90i64; 300];
-    let out: &mut [i64] = &mut space;
     let room = a[1] as usize;
     if out.len() < room {
         return no_call();
@@ -196,11 +190,9 @@ fn clean(t: &mut [u64], a: &[u64])
 }
 
 // 35 number room
-fn list_missing(t: &[u64], a: &[u64])
+fn list_missing(t: &[u64], a: &[u64], out: &mut [u32])
     requires { ⌜ Good (now t) × (length (now a) ≡ 2) ⌝ }
 {
-    let mut space = [90u32; 300];
-    let out: &mut [u32] = &mut space;
     let room = a[1] as usize;
     if out.len() < room {
         return no_call();
@@ -219,7 +211,8 @@ fn ask(t: &[u64], area: &[u8], a: &[u64])
         return show(t, area, a);
     }
     if a.len() == 2 {
-        return list_missing(t, a);
+        let mut out = [90u32; 300];
+        return list_missing(t, a, &mut out);
     }
     if a.len() == 1 {
         return flag(is_partially_received(t, signed(a[0])));
@@ -232,22 +225,23 @@ pub(crate) fn call(t: &mut [u64], area: &mut [u8], code: u64, a: &[u64])
     ensures { λ _. ⌜ Good (now (t .exit)) ⌝ }
 {
     if 7 <= a.len() {
-        return with_payload(t, area, a);
-    }
-    if code == 0x30 {
-        if a.len() == 3 {
-            return start(t, area, a);
-        }
-        return no_call();
-    }
-    if code == 0x34 {
-        if a.len() == 2 {
-            return clean(t, a);
-        }
-        return no_call();
+        let mut bytes = [0u8; 1100];
+        return with_payload(t, area, a, &mut bytes);
     }
     if a.len() == 4 {
-        return start_on(a);
+        let mut lent = [90u64; 1000];
+        return start_on(a, &mut lent);
+    }
+    if a.len() == 3 {
+        if code == 0x30 {
+            return start(t, area, a);
+        }
+    }
+    if a.len() == 2 {
+        if code == 0x34 {
+            let mut out = [90i64; 300];
+            return clean(t, a, &mut out);
+        }
     }
     ask(t, area, a);
 }

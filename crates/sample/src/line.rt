@@ -37,7 +37,7 @@ fn more(value: u64, d: u64) -> u64
 // The line from a place on, its words to the front of the lent ones. No words: a byte that is no digit, or too many.
 pub(crate) fn read_line(s: &[u8], at: usize, words: &mut [u64]) -> Line
     requires { ⌜ at < length (now s) ⌝ }
-    ensures { λ l. ⌜ (l .count ≤ length (now (words .exit))) × ((at < l .next) × (l .next ≤ length (now (s .entry)))) ⌝ }
+    ensures { λ l. ⌜ (l .count ≤ length (now (words .entry))) × ((at < l .next) × (l .next ≤ length (now (s .entry)))) ⌝ }
 {
     let mut i = at;
     let mut count = 0;

@@ -20,21 +20,27 @@ use crate::out::no_call;
 use fragment_assembler::Start;
 use libc::STDIN_FILENO;
 
-// Whether a call with this code takes so many words.
-fn takes(code: u64, n: usize) -> bool {
-    match code {
-        0x10 | 0x20 => n == 3,
-        0x11 | 0x12 | 0x16 | 0x21 | 0x22 | 0x26 => 1 <= n,
-        0x13 | 0x14 | 0x23 | 0x24 => n == 12,
-        0x15 | 0x25 => n == 10,
-        0x30 | 0x33 | 0x4a => n == 3,
-        0x31 => n == 4,
-        0x32 => 7 <= n,
-        0x34 | 0x35 | 0x42 | 0x44 => n == 2,
-        0x36 | 0x41 | 0x43 | 0x45 | 0x46 | 0x47 | 0x50 => n == 1,
-        0x37 | 0x40 | 0x48 | 0x49 => n == 0,
-        _ => false,
+// Whether so many words are what a byte of the table says: a digit, `:` ten, `<` twelve, `a` one or more, `g` seven or more, `-` no call.
+fn as_said(t: u8, n: usize) -> bool {
+    if t < b'0' {
+        return false;
     }
+    if t < b'a' {
+        return n == (t - b'0') as usize;
+    }
+    (t - 96) as usize <= n
+}
+
+// Whether a call with this code takes so many words. The table starts at code 10.
+fn takes(code: u64, n: usize) -> bool {
+    let table = b"3aa<<:a---------3aa<<:a---------34g32210--------01212111003-----1";
+    if code < 16 {
+        return false;
+    }
+    if 80 < code {
+        return false;
+    }
+    as_said(table[(code - 16) as usize], n)
 }
 
 // A call, made and answered.

@@ -56,9 +56,7 @@ fn told_set_up(r: Report, digest: u64) {
 }
 
 // 41 room: set-up on words that hold 90 each
-fn start_on(room: u64) {
-    let mut space = [90u64; 1000];
-    let lent: &mut [u64] = &mut space;
+fn start_on(room: u64, lent: &mut [u64]) {
     if (lent.len() as u64) < room {
         return no_call();
     }
@@ -83,11 +81,9 @@ fn told_last(l: Last) {
 }
 
 // 4a start end room
-fn list_missing(t: &[u64], a: &[u64])
+fn list_missing(t: &[u64], a: &[u64], out: &mut [i64])
     requires { ⌜ Good (now t) × (length (now a) ≡ 3) ⌝ }
 {
-    let mut space = [90i64; 300];
-    let out: &mut [i64] = &mut space;
     if (out.len() as u64) < a[2] {
         return no_call();
     }
@@ -111,7 +107,8 @@ fn ask(t: &[u64], code: u64, a: &[u64])
         }
     }
     if a.len() == 3 {
-        return list_missing(t, a);
+        let mut out = [90i64; 300];
+        return list_missing(t, a, &mut out);
     }
     if code == 0x48 {
         return told_last(last_change(t));
@@ -161,9 +158,10 @@ pub(crate) fn call(t: &mut [u64], code: u64, a: &[u64])
         return start(t);
     }
     if code == 0x41 {
-        return start_on(a[0]);
+        let mut lent = [90u64; 1000];
+        return start_on(a[0], &mut lent);
     }
-    if a.len() == 1 {
+    if a.len() < 2 {
         let r = change_one(t, code, a[0]);
         return told(r, all_ackable_before(t), words_digest(t));
     }

@@ -72,11 +72,9 @@ fn write_any(code: u64, a: &[u64], out: &mut [u8]) -> Written
 }
 
 // 10 and 20 order room number; 13 and 23 order room base count word ..
-fn write(code: u64, a: &[u64])
+fn write(code: u64, a: &[u64], out: &mut [u8])
     requires { ⌜ 3 ≤ length (now a) ⌝ }
 {
-    let mut space = [90u8; 64];
-    let out: &mut [u8] = &mut space;
     if (out.len() as u64) < a[1] {
         return no_call();
     }
@@ -135,29 +133,25 @@ fn read_set(code: u64, o: ByteOrder, bytes: &[u8]) {
 }
 
 // 11 and 21, a number, and 12 and 22, a set: order byte ..
-fn read(code: u64, a: &[u64])
+fn read(code: u64, a: &[u64], bytes: &mut [u8])
     requires { ⌜ 1 ≤ length (now a) ⌝ }
 {
-    let mut space = [0u8; 64];
-    let bytes: &mut [u8] = &mut space;
-    let n = a.len();
+    let n = a.len() - 1;
     if bytes.len() < n {
         return no_call();
     }
-    to_bytes(a, bytes);
+    to_bytes(&a[1..], bytes);
     let o = order(a[0]);
     if code % 16 == 1 {
-        return read_number(code, o, &bytes[1..n]);
+        return read_number(code, o, &bytes[..n]);
     }
-    read_set(code, o, &bytes[1..n]);
+    read_set(code, o, &bytes[..n]);
 }
 
 // 14 way room base count word .., 1 rising and 0 falling
-fn walk_sequence(a: &[u64])
+fn walk_sequence(a: &[u64], out: &mut [i64])
     requires { ⌜ length (now a) ≡ 12 ⌝ }
 {
-    let mut space = [90i64; 300];
-    let out: &mut [i64] = &mut space;
     if (out.len() as u64) < a[1] {
         return no_call();
     }
@@ -169,11 +163,9 @@ fn walk_sequence(a: &[u64])
 }
 
 // 24, the same
-fn walk_fragment(a: &[u64])
+fn walk_fragment(a: &[u64], out: &mut [u32])
     requires { ⌜ length (now a) ≡ 12 ⌝ }
 {
-    let mut space = [90u32; 300];
-    let out: &mut [u32] = &mut space;
     if (out.len() as u64) < a[1] {
         return no_call();
     }
@@ -202,34 +194,30 @@ fn measure(code: u64, a: &[u64])
 }
 
 // 16 base number ..
-fn make_sequence(a: &[u64])
+fn make_sequence(a: &[u64], list: &mut [i64])
     requires { ⌜ 1 ≤ length (now a) ⌝ }
 {
-    let mut space = [0i64; 300];
-    let list: &mut [i64] = &mut space;
-    let n = a.len();
+    let n = a.len() - 1;
     if list.len() < n {
         return no_call();
     }
-    to_signed(a, list);
-    let made = SequenceNumberSet::from_base_and_set(signed(a[0]), &list[1..n]);
+    to_signed(&a[1..], list);
+    let made = SequenceNumberSet::from_base_and_set(signed(a[0]), &list[..n]);
     let set = made.set;
     let words = set.words;
     told_set(made.refusal, 0, bits_of(set.base), set.count, words);
 }
 
 // 26 base number ..
-fn make_fragment(a: &[u64])
+fn make_fragment(a: &[u64], list: &mut [u32])
     requires { ⌜ 1 ≤ length (now a) ⌝ }
 {
-    let mut space = [0u32; 300];
-    let list: &mut [u32] = &mut space;
-    let n = a.len();
+    let n = a.len() - 1;
     if list.len() < n {
         return no_call();
     }
-    to_words(a, list);
-    let made = FragmentNumberSet::from_base_and_set(low_word(a[0]), &list[1..n]);
+    to_words(&a[1..], list);
+    let made = FragmentNumberSet::from_base_and_set(low_word(a[0]), &list[..n]);
     let set = made.set;
     let words = set.words;
     told_set(made.refusal, 0, set.base as u64, set.count, words);
@@ -239,43 +227,50 @@ fn make_fragment(a: &[u64])
 fn with_set(code: u64, a: &[u64])
     requires { ⌜ length (now a) ≡ 12 ⌝ }
 {
-    if code % 16 == 3 {
-        return write(code, a);
-    }
     if code == 0x14 {
-        return walk_sequence(a);
+        let mut out = [90i64; 300];
+        return walk_sequence(a, &mut out);
     }
     if code == 0x24 {
-        return walk_fragment(a);
+        let mut out = [90u32; 300];
+        return walk_fragment(a, &mut out);
     }
-    no_call();
+    let mut out = [90u8; 64];
+    write(code, a, &mut out);
+}
+
+// A call that takes a list.
+fn make(code: u64, a: &[u64])
+    requires { ⌜ 1 ≤ length (now a) ⌝ }
+{
+    if code == 0x16 {
+        let mut list = [0i64; 300];
+        return make_sequence(a, &mut list);
+    }
+    let mut list = [0u32; 300];
+    make_fragment(a, &mut list);
 }
 
 pub(crate) fn call(code: u64, a: &[u64])
     requires { ⌜ 1 ≤ length (now a) ⌝ }
 {
-    if code % 16 == 0 {
-        if a.len() == 3 {
-            return write(code, a);
-        }
-        return no_call();
+    let which = code % 16;
+    if which == 6 {
+        return make(code, a);
     }
-    if code % 16 < 3 {
-        return read(code, a);
-    }
-    if code == 0x16 {
-        return make_sequence(a);
-    }
-    if code == 0x26 {
-        return make_fragment(a);
+    if 0 < which && which < 3 {
+        let mut bytes = [0u8; 64];
+        return read(code, a, &mut bytes);
     }
     if a.len() == 12 {
         return with_set(code, a);
     }
-    if code % 16 == 5 {
-        if a.len() == 10 {
-            return measure(code, a);
-        }
+    if a.len() == 10 {
+        return measure(code, a);
+    }
+    if a.len() == 3 {
+        let mut out = [90u8; 64];
+        return write(code, a, &mut out);
     }
     no_call();
 }
