@@ -6,10 +6,11 @@ use mathlib.Core.List.{List}
 use native.Mathlib.Omega.{arith}
 use lib.ListN.{length}
 use lib.Dec.{eqb}
+use Rattle.sequence_number.specs.Outcome.{Outcome, refused, done}
 use Rattle.sequence_number.proofs.Split.{split}
 use Rattle.fragment_assembler.specs.declared.Start.{Start}
 use Rattle.fragment_assembler.specs.declared.Start.the-variants.{Refused, Ready}
-use Rattle.fragment_assembler.specs.SetUp.{Setting, refused, ready, setUp, setUpRefusal}
+use Rattle.fragment_assembler.specs.SetUp.{Setting, setUp, setUpRefusal}
 use Rattle.fragment_assembler.specs.Promise.{SetsUp}
 use Rattle.assembly_record.specs.Rules.{Good}
 use Rattle.fragment_assembler.proofs.SetUpLaws.{set-up-record}
@@ -19,7 +20,7 @@ unfolding setUp
 refused-leaves w f reliable p k w′ h =
     split (eqb (setUpRefusal f p (length w)) 0)
     (λ t.
-    let u : refused k ≡ ready = ap (λ (x : Setting). x .answer) (rw t at (h .same)) in
+    let u : _≡_ {A = Outcome (Unit {0})} (refused k) (done tt) = ap (λ (x : Setting). x .answer) (rw t at (h .same)) in
     let z : _≡_ {A = ℕ} 0 1 = cc in absurd (omega arith))
     (λ t. sym (ap (λ (x : Setting). x .words) (rw t at (h .same))))
 
