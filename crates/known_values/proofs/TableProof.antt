@@ -12,15 +12,19 @@ use Rattle.fragment_assembler.specs.Call.{fragment}
 use Rattle.assembly_record.specs.Fragments.{fragments}
 use Rattle.fragment_assembler.specs.Refusal.{rows}
 use Rattle.assembly_record.specs.Table.{has}
-use Rattle.known_values.specs.Table.{KnownValues}
+use Rattle.known_values.specs.Table.{upFrom, numbers, KnownValues}
 
 -- P10: a thousand numbers are put as one run
 range-10 : irrelevantRange (pos 2) (pos 1002) begun ≡ ended (changed (rangeIn 2 1002 []) begun)
 unfolding irrelevantRange rangeAt
 range-10 = ap ended (each-is 1000 2 begun tt (omega arith))
 
+p10 : (irrelevantRange (pos 2) (pos 1002) begun .state .base ≡ 746) × (numbers (irrelevantRange (pos 2) (pos 1002) begun .state) ≡ upFrom 746 256)
+unfolding ended capped rangeIn gone below from
+p10 = rw range-10 (refl, refl)
+
 pub known-values : KnownValues
-unfolding fragments rows has fragment received receivedAt noted settled moveOn discard ended capped irrelevantRange rangeAt skipped without putEach putIn below from runLen rangeIn gone
+unfolding fragments rows has fragment received receivedAt noted settled moveOn discard ended capped irrelevantRange rangeAt skipped without putEach putIn below from runLen
 known-values =
     record {
       P1 = refl;
@@ -32,6 +36,6 @@ known-values =
       P7 = (refl, refl);
       P8 = λ reliable area e. rw e (refl, refl, refl, refl);
       P9 = refl;
-      P10 = rw range-10 (refl, refl);
+      P10 = p10;
       P11 = (refl, inl refl);
     }
