@@ -148,7 +148,7 @@ module _ {A : Type 0} (f : ℕ → A) (from word : ℕ) (out₀ : List A) (place
             }
 
     -- the same, by what a call gave
-    pub climbs-next : (out′ : List A) (n′ w′ i′ : ℕ) → out′ ≡ set out n (f (l .j)) → n′ ≡ n + w / 2147483648 → w′ ≡ w * 2 % 4294967296 → i′ ≡ i + 1 → 0 < w
+    climbs-next : (out′ : List A) (n′ w′ i′ : ℕ) → out′ ≡ set out n (f (l .j)) → n′ ≡ n + w / 2147483648 → w′ ≡ w * 2 % 4294967296 → i′ ≡ i + 1 → 0 < w
         → Climbs f from word out₀ place out′ n′ w′ i′
     climbs-next out′ n′ w′ i′ p q r s h = rw (p, q, r, s) (climbs-step h)
 
@@ -231,6 +231,13 @@ module _ {A : Type 0} (f : ℕ → A) (from word : ℕ) (out₀ : List A) (place
 
     pub climbs-done : w ≡ 0 → out ≡ sets out₀ place (map f (wordPositions word))
     climbs-done z = l .clean z ∙ ap (λ (ps : List ℕ). sets out₀ place (map f ps)) (sym (done-all z))
+
+-- a step, where g is the number of a position
+pub climbs-by : {A : Type 0} (g : ℕ → A) (from word : ℕ) (out₀ : List A) (place : ℕ) (out : List A) (n w i : ℕ)
+    → Climbs (λ (k : ℕ). g (from + k)) from word out₀ place out n w i → (out′ : List A) (n′ w′ i′ : ℕ) → out′ ≡ set out n (g i) → n′ ≡ n + w / 2147483648
+    → w′ ≡ w * 2 % 4294967296 → i′ ≡ i + 1 → 0 < w → Climbs (λ (k : ℕ). g (from + k)) from word out₀ place out′ n′ w′ i′
+climbs-by g from word out₀ place out n w i l out′ n′ w′ i′ p q r s h =
+    climbs-next (λ (k : ℕ). g (from + k)) from word out₀ place out n w i l out′ n′ w′ i′ (p ∙ ap (λ (m : ℕ). set out n (g m)) (l .here)) q r s h
 
 -- a shift and one more
 pub shift-more : (x y v : ℕ) → v ≡ x % 4294967296 → y ≡ x * 2 → y % 4294967296 ≡ v * 2 % 4294967296

@@ -1,13 +1,12 @@
 -- `sequence_number::walk::rise_rest_fragment` meets its contract: while something is left of the word a member is to come, whose place may hold any number.
 -- Assumes nothing.
 use Prim.Native.Nat.{ℕ, _+_, _-_}
-use mathlib.Core.Path.{refl, ap, _∙_}
+use mathlib.Core.Path.{refl}
 use native.Mathlib.Omega.{arith}
-use lib.ListN.{set}
 use borrow.Author.Needs.{needs}
 use Rattle.sequence_number.specs.Kind.{fragment}
 use Rattle.sequence_number.proofs.FitLaws.{fragment-below}
-use Rattle.sequence_number.proofs.ClimbLaws.{Climbs, climbs-none, climbs-next, climbs-asks, climbs-more, climbs-many, climbs-done}
+use Rattle.sequence_number.proofs.ClimbLaws.{Climbs, climbs-none, climbs-by, climbs-asks, climbs-more, climbs-many, climbs-done}
 use Rattle.sequence_number.proofs.walk.rise_rest_fragment.Statement.{statement}
 use Rattle.sequence_number.proofs.walk.rise_rest_fragment.Tie as tie
 
@@ -38,7 +37,7 @@ loop-again c =
     let r = c .before .before .step-fragment in
     let l = c .before .before .before .before .before .loop in
     let a = c .before .before .before .before .before .before .before .args in
-    climbs-next _ _ _ _ _ _ _ _ _ (l .inv) _ _ _ _ (r .ensures .1 ∙ ap (λ (k : ℕ). set (l .out) (l .n) (a .base + k)) (l .inv .here)) (r .ensures .0) refl refl (omega arith)
+    climbs-by (λ (m : ℕ). a .base + m) _ _ _ _ _ _ _ _ (l .inv) _ _ _ _ (r .ensures .1) (r .ensures .0) refl refl (omega arith)
 
 same-length : tie.Need-same-length Inv-loop μ-loop
 same-length c = c .before .loop .inv .long

@@ -4,7 +4,6 @@ use Prim.Native.Nat.{ℕ, _+_, _-_}
 use mathlib.Core.Path.{refl, ap, _∙_}
 use mathlib.Core.List.{map}
 use native.Mathlib.Omega.{arith}
-use lib.ListN.{set}
 use lib.IntN.{ℤ, pos, _+ℤ_}
 use lib.Seq.{sets}
 use mir.Syntax.{w64}
@@ -15,7 +14,7 @@ use Rattle.sequence_number.specs.Kind.{sequence}
 use Rattle.sequence_number.specs.Bitmap.{wordPositions}
 use Rattle.sequence_number.specs.Walk.{anyPast}
 use Rattle.sequence_number.proofs.FitLaws.{fits-below}
-use Rattle.sequence_number.proofs.ClimbLaws.{Climbs, climbs-none, climbs-next, climbs-asks, climbs-more, climbs-many, climbs-done}
+use Rattle.sequence_number.proofs.ClimbLaws.{Climbs, climbs-none, climbs-by, climbs-asks, climbs-more, climbs-many, climbs-done}
 use Rattle.sequence_number.proofs.walk.rise_rest_sequence.Statement.{statement}
 use Rattle.sequence_number.proofs.walk.rise_rest_sequence.Tie as tie
 
@@ -47,7 +46,7 @@ loop-again c =
     let r = c .before .step-sequence in
     let l = c .before .before .before .before .loop in
     let a = c .before .before .before .before .before .args in
-    climbs-next _ _ _ _ _ _ _ _ _ (l .inv) _ _ _ _ (r .ensures .1 ∙ ap (λ (k : ℕ). set (l .out) (l .n) (toZ w64 (ofZ w64 (a .base)) +ℤ pos k)) (l .inv .here)) (r .ensures .0) refl refl (omega arith)
+    climbs-by (λ (m : ℕ). toZ w64 (ofZ w64 (a .base)) +ℤ pos m) _ _ _ _ _ _ _ _ (l .inv) _ _ _ _ (r .ensures .1) (r .ensures .0) refl refl (omega arith)
 
 same-length : tie.Need-same-length Inv-loop μ-loop
 same-length c = c .before .loop .inv .long
