@@ -7,7 +7,7 @@ use native.Mathlib.Omega.{arith}
 use native.Mathlib.Decide.{decLt}
 use native.Mathlib.Nat.{mul-assoc, mul-mod-left, mod-eq-of-lt, div-eq-of-lt}
 use lib.ListN.{length, length-append, length-map, length-set, set}
-use lib.Seq.{sets, length-sets, set-set}
+use lib.Seq.{sets, set-set, append-snoc}
 use lib.Dec.{eqb}
 use lib.Pow.{pow-add, shr-shr}
 use borrow.Author.Tests.{eq-eqb, ne-eqb}
@@ -16,7 +16,7 @@ use Rattle.sequence_number.specs.Walk.{anyPast}
 use Rattle.sequence_number.proofs.RunLaws.{sets-append}
 use Rattle.sequence_number.proofs.PositionLaws.{positions-yes, positions-no, length-more}
 use Rattle.sequence_number.proofs.WordBitLaws.{map-append, has-one, shifted-bit, positions-shifted, none-left, none-in-zero, some-in}
-use Rattle.sequence_number.proofs.WalkLaws.{past-append, or-right, or-left, not-false-true, member-fits, Falling, falling-none, falling-yes, falling-no, falling-room, falling-long, falling-done}
+use Rattle.sequence_number.proofs.WalkLaws.{past-append, past-map, map-map, or-right, or-left, not-false-true, member-fits, Falling, falling-none, falling-yes, falling-no, falling-room, falling-long, falling-done}
 
 -- the first j bits are walked, and w is what is left. A place that a member is to take may hold any number
 pub record Climbs {A : Type 0} (f : ℕ → A) (from word : ℕ) (out₀ : List A) (place : ℕ) (out : List A) (n w i : ℕ) : Type 0 where
@@ -147,6 +147,78 @@ module _ {A : Type 0} (f : ℕ → A) (from word : ℕ) (out₀ : List A) (place
               long = kept;
             }
 
+    -- the same, by what a call gave
+    climbs-next : (out′ : List A) (n′ w′ i′ : ℕ) → out′ ≡ set out n (f (l .j)) → n′ ≡ n + w / 2147483648 → w′ ≡ w * 2 % 4294967296 → i′ ≡ i + 1 → 0 < w
+        → Climbs f from word out₀ place out′ n′ w′ i′
+    climbs-next out′ n′ w′ i′ p q r s h = rw (p, q, r, s) (climbs-step h)
+
+    -- what a step asks for, where a position below one that fits, fits
+    pub climbs-asks : (fits : ℕ → Bool) → ((k m : ℕ) → k ≤ m → fits m ≡ true → fits k ≡ true) → anyPast (λ (k : ℕ). fits (from + k)) (wordPositions word) ≡ false
+        → place + length (wordPositions word) ≤ length out₀ → 0 < w → (fits i ≡ true) × (n < length out)
+    climbs-asks fits below e r p =
+        let m = climbs-fits (λ (k : ℕ). fits (from + k)) p e in
+        (below i (from + (l .j + m .0)) (omega (arith, l .here)) (m .1), omega (arith, climbs-room p, l .long))
+
+    -- and what is asked of the word that is left
+    pub climbs-past : (fits : ℕ → Bool) → anyPast (λ (k : ℕ). fits (from + k)) (wordPositions word) ≡ false → anyPast (λ (k : ℕ). fits (i + k)) (wordPositions w) ≡ false
+    climbs-past fits e =
+        let g : ℕ → Bool = λ k. fits (from + k) in
+        let q : List ℕ = map (λ (k : ℕ). l .j + k) (wordPositions w) in
+        let b = or-right (anyPast g (positions (word ∷ []) (l .j))) (anyPast g q) (sym (ap (anyPast g) parts ∙ past-append g (positions (word ∷ []) (l .j)) q) ∙ e) in
+        past-same (wordPositions w) ∙ sym (past-map g (λ (k : ℕ). l .j + k) (wordPositions w)) ∙ b
+      where
+        past-same : (ps : List ℕ) → anyPast (λ (k : ℕ). fits (i + k)) ps ≡ anyPast (λ (k : ℕ). fits (from + (l .j + k))) ps
+        past-same [] = refl
+        past-same (x ∷ ps) =
+            let e : i + x ≡ from + (l .j + x) = omega (arith, l .here) in
+            (λ k. not (fits (e k)) || past-same ps k)
+
+    lengths : length (wordPositions word) ≡ length (positions (word ∷ []) (l .j)) + length (wordPositions w)
+    lengths =
+        ap length parts
+        ∙ length-append (positions (word ∷ []) (l .j)) (map (λ (k : ℕ). l .j + k) (wordPositions w))
+        ∙ ap (λ (m : ℕ). length (positions (word ∷ []) (l .j)) + m) (length-map (wordPositions w) (λ (k : ℕ). l .j + k))
+
+    pub climbs-left : place + length (wordPositions word) ≤ length out₀ → n + length (wordPositions w) ≤ length out
+    climbs-left r = omega (arith, l .many, l .long, lengths)
+
+    zero-word : wordPositions w ≡ [] → w ≡ 0
+    zero-word z = go (decLt 0 w)
+      where
+        go : Dec (0 < w) → w ≡ 0
+        go (yes h) = absurd (omega (arith, some-in w h small, ap length z))
+        go (no h) = omega (arith, h)
+
+    -- the members of the word that is left, after those before them
+    pub climbs-rest : (g : ℕ → A) → ((k : ℕ) → g k ≡ f (l .j + k)) → (out′ : List A) (n′ : ℕ) → n′ ≡ n + length (wordPositions w)
+        → out′ ≡ sets out n (map g (wordPositions w)) → (n′ ≡ place + length (wordPositions word)) × (out′ ≡ sets out₀ place (map f (wordPositions word)))
+    climbs-rest g same out′ n′ e p =
+        (omega (arith, l .many, lengths), p ∙ ap (sets out n) (map-same (wordPositions w)) ∙ go (wordPositions w) refl ∙ ap (sets out₀ place) (sym all))
+      where
+        map-same : (q : List ℕ) → map g q ≡ map (λ (k : ℕ). f (l .j + k)) q
+        map-same [] = refl
+        map-same (x ∷ q) = (λ k. same x k ∷ map-same q k)
+
+        all : map f (wordPositions word) ≡ map f (positions (word ∷ []) (l .j)) ++ map (λ (k : ℕ). f (l .j + k)) (wordPositions w)
+        all =
+            ap (map f) parts
+            ∙ map-append f (positions (word ∷ []) (l .j)) (map (λ (k : ℕ). l .j + k) (wordPositions w))
+            ∙ ap (λ (x : List A). map f (positions (word ∷ []) (l .j)) ++ x) (map-map f (λ (k : ℕ). l .j + k) (wordPositions w))
+
+        next-place : (t : ℕ) → suc t ≡ t + 1
+        next-place t = omega arith
+
+        go : (q : List ℕ) → wordPositions w ≡ q
+            → sets out n (map (λ (k : ℕ). f (l .j + k)) q) ≡ sets out₀ place (map f (positions (word ∷ []) (l .j)) ++ map (λ (k : ℕ). f (l .j + k)) q)
+        go [] z = l .clean (zero-word z) ∙ ap (sets out₀ place) (sym (append-nil (map f (positions (word ∷ []) (l .j)))))
+        go (x ∷ q) z =
+            let m : n + 1 ≡ place + length (map f (positions (word ∷ []) (l .j)) ++ (f (l .j + x) ∷ [])) =
+            omega (arith, l .many, length-append (map f (positions (word ∷ []) (l .j))) (f (l .j + x) ∷ []), length-map (positions (word ∷ []) (l .j)) f) in
+            (λ k. sets (l .loose (f (l .j + x)) k) (next-place n k) (map (λ (y : ℕ). f (l .j + y)) q))
+            ∙ ap (λ (t : ℕ). sets (sets out₀ place (map f (positions (word ∷ []) (l .j)) ++ (f (l .j + x) ∷ []))) t (map (λ (y : ℕ). f (l .j + y)) q)) m
+            ∙ sets-append (map f (positions (word ∷ []) (l .j)) ++ (f (l .j + x) ∷ [])) (map (λ (y : ℕ). f (l .j + y)) q) out₀ place
+            ∙ ap (sets out₀ place) (append-snoc (map f (positions (word ∷ []) (l .j))) (f (l .j + x)) (map (λ (y : ℕ). f (l .j + y)) q))
+
     done-all : w ≡ 0 → wordPositions word ≡ positions (word ∷ []) (l .j)
     done-all z =
         parts
@@ -159,6 +231,30 @@ module _ {A : Type 0} (f : ℕ → A) (from word : ℕ) (out₀ : List A) (place
 
     pub climbs-done : w ≡ 0 → out ≡ sets out₀ place (map f (wordPositions word))
     climbs-done z = l .clean z ∙ ap (λ (ps : List ℕ). sets out₀ place (map f ps)) (sym (done-all z))
+
+-- a step, where g is the number of a position
+pub climbs-by : {A : Type 0} (g : ℕ → A) (from word : ℕ) (out₀ : List A) (place : ℕ) (out : List A) (n w i : ℕ)
+    → Climbs (λ (k : ℕ). g (from + k)) from word out₀ place out n w i → (out′ : List A) (n′ w′ i′ : ℕ) → out′ ≡ set out n (g i) → n′ ≡ n + w / 2147483648
+    → w′ ≡ w * 2 % 4294967296 → i′ ≡ i + 1 → 0 < w → Climbs (λ (k : ℕ). g (from + k)) from word out₀ place out′ n′ w′ i′
+climbs-by g from word out₀ place out n w i l out′ n′ w′ i′ p q r s h =
+    climbs-next (λ (k : ℕ). g (from + k)) from word out₀ place out n w i l out′ n′ w′ i′ (p ∙ ap (λ (m : ℕ). set out n (g m)) (l .here)) q r s h
+
+-- a shift and one more
+pub shift-more : (x y v : ℕ) → v ≡ x % 4294967296 → y ≡ x * 2 → y % 4294967296 ≡ v * 2 % 4294967296
+shift-more x y v e f = omega arith
+
+-- what is left after four bits is left after fewer
+pub left-four : (w : ℕ) → 0 < w * 16 % 4294967296
+    → (0 < w) × (0 < w * 2 % 4294967296) × (0 < w * 4 % 4294967296) × (0 < w * 8 % 4294967296)
+left-four w t =
+    let a : 0 < w * 8 % 4294967296 = before (w * 8) (w * 16) (omega arith) t in
+    let b : 0 < w * 4 % 4294967296 = before (w * 4) (w * 8) (omega arith) a in
+    let d : 0 < w * 2 % 4294967296 = before (w * 2) (w * 4) (omega arith) b in
+    let e : 0 < w % 4294967296 = before w (w * 2) refl d in
+    (omega arith, d, b, a)
+  where
+    before : (x y : ℕ) → y ≡ x * 2 → 0 < y % 4294967296 → 0 < x % 4294967296
+    before x y e h = omega arith
 
 -- ---- the highest first: the bits from j on are walked, and w is what is left
 

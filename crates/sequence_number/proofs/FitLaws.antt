@@ -14,7 +14,7 @@ use borrow.Author.Tests.{ltb-true, lt-ltb, le-ltb}
 use Rattle.sequence_number.specs.Kind.{sequence, fragment}
 
 -- a sum that sequence .fits allows fits
-pub sum-fits : (b : ℤ) (k : ℕ) → SFits w64 b → k < 256 → sequence .fits b k ≡ true → SFits w64 (b +ℤ pos k)
+pub sum-fits : (b : ℤ) (k : ℕ) → SFits w64 b → k < 4294967296 → sequence .fits b k ≡ true → SFits w64 (b +ℤ pos k)
 sum-fits (pos a) k f h t = record { sfits = ltb-true (a + k) (2 ^ 63) t }
 sum-fits (negsuc a) k f h t = record { sfits = go (ltb k (suc a)) }
   where
@@ -23,7 +23,7 @@ sum-fits (negsuc a) k f h t = record { sfits = go (ltb k (suc a)) }
     go false = omega arith
 
 -- the sum as the machine makes it, of two numbers read back from their bits
-module _ (b : ℤ) (k : ℕ) (f : SFits w64 b) (h : k < 256) (t : sequence .fits b k ≡ true) where
+module _ (b : ℤ) (k : ℕ) (f : SFits w64 b) (h : k < 4294967296) (t : sequence .fits b k ≡ true) where
   pub sum-ok : SFits w64 (toZ w64 (ofZ w64 b) +ℤ toZ w64 k)
   sum-ok = rw (toZ-ofZ {w = w64} {z = b} f, toZ-pos w64 {n = k} (omega arith)) (sum-fits b k f h t)
 
@@ -80,3 +80,6 @@ fits-below (negsuc a) k m h t = go (decLt k (suc a)) (decLt m (suc a)) t
     go (no p) (no q) u =
         let v : ltb (m - suc a) (2 ^ 63) ≡ true = rw (le-ltb m (suc a) (omega (arith, q))) at u in
         rw (le-ltb k (suc a) (omega (arith, p))) (lt-ltb (k - suc a) (2 ^ 63) (omega (arith, p, ltb-true (m - suc a) (2 ^ 63) v)))
+
+pub fragment-below : (b k m : ℕ) → k ≤ m → fragment .fits b m ≡ true → fragment .fits b k ≡ true
+fragment-below b k m h t = lt-ltb (b + k) (2 ^ 32) (omega (arith, ltb-true (b + m) (2 ^ 32) t))

@@ -81,11 +81,11 @@ past-agree f g ws a (suc n) h =
 
 -- ---- the loops that write the members: f i is the number that position i stands for
 
-map-map : {A : Type 0} (f : ℕ → A) (g : ℕ → ℕ) (xs : List ℕ) → map f (map g xs) ≡ map (λ (i : ℕ). f (g i)) xs
+pub map-map : {A : Type 0} (f : ℕ → A) (g : ℕ → ℕ) (xs : List ℕ) → map f (map g xs) ≡ map (λ (i : ℕ). f (g i)) xs
 map-map f g [] = refl
 map-map f g (x ∷ xs) = ap (λ (l : List _). f (g x) ∷ l) (map-map f g xs)
 
-past-map : (fits : ℕ → Bool) (g : ℕ → ℕ) (xs : List ℕ) → anyPast fits (map g xs) ≡ anyPast (λ (i : ℕ). fits (g i)) xs
+pub past-map : (fits : ℕ → Bool) (g : ℕ → ℕ) (xs : List ℕ) → anyPast fits (map g xs) ≡ anyPast (λ (i : ℕ). fits (g i)) xs
 past-map fits g [] = refl
 past-map fits g (x ∷ xs) = ap (λ (b : Bool). not (fits (g x)) || b) (past-map fits g xs)
 

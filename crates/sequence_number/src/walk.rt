@@ -7,8 +7,8 @@ use crate::signed::bits_of;
 ghost use mathlib.Core.Path.{_≡_};
 ghost use mathlib.Core.Bool.{true, false, cond, _&&_};
 ghost use mathlib.Core.List.{[], _∷_, map, reverse};
-ghost use Prim.Native.Nat.{ℕ, _+_, _-_, _≤_, _<_, min};
-ghost use lib.ListN.{length};
+ghost use Prim.Native.Nat.{ℕ, _+_, _-_, _/_, _≤_, _<_, min};
+ghost use lib.ListN.{length, set};
 ghost use lib.Dec.{ltb};
 ghost use lib.Seq.{sets};
 ghost use Rattle.sequence_number.specs.Outcome.{refused, done};
@@ -93,7 +93,66 @@ fn first_bits(w: u32, m: u32) -> u32
     (w >> (32 - m)) << (32 - m)
 }
 
-// The members of one word, the lowest first, from place n on; and the place after them. A number that is no member is stored to where the next member goes.
+// The number of bit i to place n, and the next place: the same one where the first bit of w, which is bit i, is not set.
+fn step_sequence(base: i64, i: u32, w: u32, out: &mut [i64], n: usize) -> usize
+    requires { ⌜ sequence .fits base i ≡ true ⌝ }
+    requires { ⌜ n < length (now out) ⌝ }
+    ensures { λ r. ⌜ r ≡ n + w / 2147483648 ⌝ }
+    ensures { λ _. ⌜ now (out .exit) ≡ set (now (out .entry)) n (sequence .plus base i) ⌝ }
+{
+    let x = base + i as i64;
+    out[n] = x;
+    n + (w >> 31) as usize
+}
+
+fn step_fragment(base: u32, i: u32, w: u32, out: &mut [u32], n: usize) -> usize
+    requires { ⌜ fragment .fits base i ≡ true ⌝ }
+    requires { ⌜ n < length (now out) ⌝ }
+    ensures { λ r. ⌜ r ≡ n + w / 2147483648 ⌝ }
+    ensures { λ _. ⌜ now (out .exit) ≡ set (now (out .entry)) n (fragment .plus base i) ⌝ }
+{
+    out[n] = base + i;
+    n + (w >> 31) as usize
+}
+
+// The members of a word, the lowest first, from a place on; and the place after them. While something is left of the word, a member is to come and takes the place.
+fn rise_rest_sequence(base: i64, from: u32, word: u32, out: &mut [i64], place: usize) -> usize
+    requires { ⌜ from ≤ 256 ⌝ }
+    requires { ⌜ anyPast (λ i. sequence .fits base (from + i)) (wordPositions word) ≡ false ⌝ }
+    requires { ⌜ place + length (wordPositions word) ≤ length (now out) ⌝ }
+    ensures { λ r. ⌜ r ≡ place + length (wordPositions word) ⌝ }
+    ensures { λ _. ⌜ now (out .exit) ≡ sets (now (out .entry)) place (map (λ i. sequence .plus base (from + i)) (wordPositions word)) ⌝ }
+{
+    let mut n = place;
+    let mut w = word;
+    let mut i = from;
+    while w != 0 {
+        n = step_sequence(base, i, w, out, n);
+        w = w << 1;
+        i += 1;
+    }
+    n
+}
+
+fn rise_rest_fragment(base: u32, from: u32, word: u32, out: &mut [u32], place: usize) -> usize
+    requires { ⌜ from ≤ 256 ⌝ }
+    requires { ⌜ anyPast (λ i. fragment .fits base (from + i)) (wordPositions word) ≡ false ⌝ }
+    requires { ⌜ place + length (wordPositions word) ≤ length (now out) ⌝ }
+    ensures { λ r. ⌜ r ≡ place + length (wordPositions word) ⌝ }
+    ensures { λ _. ⌜ now (out .exit) ≡ sets (now (out .entry)) place (map (λ i. fragment .plus base (from + i)) (wordPositions word)) ⌝ }
+{
+    let mut n = place;
+    let mut w = word;
+    let mut i = from;
+    while w != 0 {
+        n = step_fragment(base, i, w, out, n);
+        w = w << 1;
+        i += 1;
+    }
+    n
+}
+
+// The same, four bits at a turn while there are members past them.
 fn rise_word_sequence(base: i64, from: u32, word: u32, out: &mut [i64], place: usize) -> usize
     requires { ⌜ from ≤ 224 ⌝ }
     requires { ⌜ anyPast (λ i. sequence .fits base (from + i)) (wordPositions word) ≡ false ⌝ }
@@ -104,14 +163,15 @@ fn rise_word_sequence(base: i64, from: u32, word: u32, out: &mut [i64], place: u
     let mut n = place;
     let mut w = word;
     let mut i = from;
-    while w != 0 {
-        let x = base + i as i64;
-        out[n] = x;
-        n += (w >> 31) as usize;
-        w = w << 1;
-        i += 1;
+    while w << 4 != 0 {
+        n = step_sequence(base, i, w, out, n);
+        n = step_sequence(base, i + 1, w << 1, out, n);
+        n = step_sequence(base, i + 2, w << 2, out, n);
+        n = step_sequence(base, i + 3, w << 3, out, n);
+        w = w << 4;
+        i += 4;
     }
-    n
+    rise_rest_sequence(base, i, w, out, n)
 }
 
 fn rise_word_fragment(base: u32, from: u32, word: u32, out: &mut [u32], place: usize) -> usize
@@ -124,13 +184,15 @@ fn rise_word_fragment(base: u32, from: u32, word: u32, out: &mut [u32], place: u
     let mut n = place;
     let mut w = word;
     let mut i = from;
-    while w != 0 {
-        out[n] = base + i;
-        n += (w >> 31) as usize;
-        w = w << 1;
-        i += 1;
+    while w << 4 != 0 {
+        n = step_fragment(base, i, w, out, n);
+        n = step_fragment(base, i + 1, w << 1, out, n);
+        n = step_fragment(base, i + 2, w << 2, out, n);
+        n = step_fragment(base, i + 3, w << 3, out, n);
+        w = w << 4;
+        i += 4;
     }
-    n
+    rise_rest_fragment(base, i, w, out, n)
 }
 
 // The members of one word, the highest first, from place n on; and the place after them.

@@ -30,7 +30,7 @@ abbrev μ-loop : tie.MeasureT-loop
 roomy : (c : tie.Then1 Inv-loop μ-loop) → c .before .before .loop .n < length (c .before .before .loop .out)
 roomy c = falls-room _ _ _ _ _ _ _ _ _ (c .before .before .loop .inv) (omega arith) (omega arith) (c .if1 .taken) (c .before .before .before .pre .1 .1)
 
-near : (c : tie.Then1 Inv-loop μ-loop) → c .before .before .loop .i - 1 < 256
+near : (c : tie.Then1 Inv-loop μ-loop) → c .before .before .loop .i - 1 < 4294967296
 near c = omega (arith, c .before .before .loop .inv .here, c .before .before .loop .inv .few)
 
 -- and fits
