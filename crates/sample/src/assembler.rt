@@ -55,7 +55,7 @@ fn start(t: &mut [u64], area: &mut [u8], a: &[u64])
     }
 }
 
-// 31 room f mode p: set-up on words that hold 90 each
+// 31 room f mode p: on lent words
 fn start_on(a: &[u64], lent: &mut [u64])
     requires { ⌜ length (now a) ≡ 4 ⌝ }
 {
@@ -138,7 +138,7 @@ fn take_fragment(t: &mut [u64], area: &mut [u8], a: &[u64], payload: &[u8])
     told(t, &area[..n], r);
 }
 
-// The same, its payload to be made of words
+// 32, its payload to be made of words
 fn with_payload(t: &mut [u64], area: &mut [u8], a: &[u64], bytes: &mut [u8])
     requires { ⌜ Good (now t) × (7 ≤ length (now a)) ⌝ }
     ensures { λ _. ⌜ Good (now (t .exit)) ⌝ }
@@ -164,6 +164,7 @@ fn show(t: &[u64], area: &[u8], a: &[u64])
     show_bytes(shown);
 }
 
+// A refusal, or 0 and how many were dropped; then the digest of the record.
 fn told_cleaned(c: Cleaned, digest: u64) {
     match c {
         Cleaned::Refused(k) => first(k as u64),
@@ -203,6 +204,7 @@ fn list_missing(t: &[u64], a: &[u64], out: &mut [u32])
     }
 }
 
+// 35, its list to be lent
 fn list_lent(t: &[u64], a: &[u64])
     requires { ⌜ Good (now t) × (length (now a) ≡ 2) ⌝ }
 {
@@ -226,7 +228,7 @@ fn ask(t: &[u64], area: &[u8], a: &[u64])
     line(in_assembly(t) as u64);
 }
 
-// 31 on words that hold 90 each
+// 31, on words that hold 90 each
 fn start_fresh(a: &[u64])
     requires { ⌜ length (now a) ≡ 4 ⌝ }
 {
@@ -234,7 +236,7 @@ fn start_fresh(a: &[u64])
     start_on(a, &mut lent);
 }
 
-// 32, its payload not yet bytes
+// 32, bytes for its payload to be lent
 fn take_words(t: &mut [u64], area: &mut [u8], a: &[u64])
     requires { ⌜ Good (now t) × (7 ≤ length (now a)) ⌝ }
     ensures { λ _. ⌜ Good (now (t .exit)) ⌝ }

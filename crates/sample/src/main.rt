@@ -107,23 +107,34 @@ fn answer_lines(
 }
 
 // All input, on good records.
-fn answer_input(proxy: &mut [u64], assembler: &mut [u64], area: &mut [u8], words: &mut [u64])
+fn answer_input(
+    proxy: &mut [u64],
+    assembler: &mut [u64],
+    area: &mut [u8],
+    words: &mut [u64],
+    input: &mut [u8],
+)
     requires { ⌜ GoodProxy (now proxy) × GoodAssembler (now assembler) ⌝ }
 {
-    let mut input = [0u8; 400000];
-    let n = io::read_full(STDIN_FILENO, &mut input);
+    let n = io::read_full(STDIN_FILENO, input);
     answer_lines(proxy, assembler, area, words, &input[..n]);
 }
 
 // Both records from set-up, so that they are good from the first line on.
-fn run(proxy: &mut [u64], assembler: &mut [u64], area: &mut [u8], words: &mut [u64])
+fn run(
+    proxy: &mut [u64],
+    assembler: &mut [u64],
+    area: &mut [u8],
+    words: &mut [u64],
+    input: &mut [u8],
+)
     requires { ⌜ (length (now proxy) ≡ size) × (length (now assembler) ≡ 906) ⌝ }
 {
     writer_proxy::set_up::set_up(proxy);
     let Start::Ready = fragment_assembler::set_up(assembler, 1, true, 1) else {
         return;
     };
-    answer_input(proxy, assembler, area, words);
+    answer_input(proxy, assembler, area, words, input);
 }
 
 fn main() {
@@ -131,5 +142,12 @@ fn main() {
     let mut assembler = [0u64; 906];
     let mut area = [0u8; 264200];
     let mut words = [0u64; 1200];
-    run(&mut proxy, &mut assembler, &mut area, &mut words);
+    let mut input = [0u8; 400000];
+    run(
+        &mut proxy,
+        &mut assembler,
+        &mut area,
+        &mut words,
+        &mut input,
+    );
 }

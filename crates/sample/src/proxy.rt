@@ -55,6 +55,7 @@ fn told(t: &[u64], r: Report)
     end();
 }
 
+// What became of set-up, and the digest of its words.
 fn told_set_up(r: Report, digest: u64) {
     match r {
         Report::Done => return pair(0, digest),
@@ -63,7 +64,7 @@ fn told_set_up(r: Report, digest: u64) {
     }
 }
 
-// 41 room: set-up on lent words
+// 41 room: on lent words
 fn start_on(room: u64, lent: &mut [u64]) {
     if (lent.len() as u64) < room {
         return no_call();
@@ -102,6 +103,7 @@ fn list_missing(t: &[u64], a: &[u64], out: &mut [i64])
     }
 }
 
+// 4a, its list to be lent
 fn list_lent(t: &[u64], a: &[u64])
     requires { ⌜ Good (now t) × (length (now a) ≡ 3) ⌝ }
 {
@@ -161,7 +163,7 @@ fn start(t: &mut [u64])
     told_set_up(r, words_digest(t));
 }
 
-// The same on words that hold 90 each
+// 41, on words that hold 90 each
 fn start_fresh(room: u64) {
     let mut lent = [90u64; 1000];
     start_on(room, &mut lent);

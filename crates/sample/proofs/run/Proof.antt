@@ -32,11 +32,11 @@ returns c = search needs
 
 answer-input-requires : tie.Need-answer-input-requires
 answer-input-requires c κs =
-    let s = c .before .before .before .before .before .before .before .before .before .before .before .before .set-up in
-    let a = c .before .before .before .before .before .before .before .before .set-up2 in
-    let p = c .before .before .before .before .before .before .before .before .before .before .before .before .before .before .before .before .before .before .pre in (
+    let s = c .before .before .before .before .before .before .before .before .before .before .before .before .before .set-up in
+    let a = c .before .before .before .before .before .before .before .before .before .set-up2 in
+    let p = c .before .before .before .before .before .before .before .before .before .before .before .before .before .before .before .before .before .before .before .before .pre in (
       subst GoodProxy (take-all 775 (s .last .0) (omega (arith, s .kept .0, p .0))) (s .ensures .1 (omega (arith, p .0))),
-      set-up-record _ _ _ _ _ _ (a .ensures) (omega (arith, a .kept .0, p .1)) (ap startedOf (c .before .before .before .before .enum-told .given .1)),
+      set-up-record _ _ _ _ _ _ (a .ensures) (omega (arith, a .kept .0, p .1)) (ap startedOf (c .before .before .before .before .before .enum-told .given .1)),
     )
 
 same-length-3 : tie.Need-same-length-3
@@ -50,6 +50,9 @@ same-length-5 c = search needs
 
 same-length-6 : tie.Need-same-length-6
 same-length-6 c = search needs
+
+same-length-7 : tie.Need-same-length-7
+same-length-7 c = search needs
 
 returns-2 : tie.Need-returns-2
 returns-2 c = search needs
@@ -70,4 +73,5 @@ run-spec =
     same-length-4
     same-length-5
     same-length-6
+    same-length-7
     returns-2)
