@@ -55,7 +55,7 @@ fn start(t: &mut [u64], area: &mut [u8], a: &[u64])
     }
 }
 
-// 31 room f mode p: set-up on words that hold 90 each
+// 31 room f mode p: on lent words
 fn start_on(a: &[u64], lent: &mut [u64])
     requires { ⌜ length (now a) ≡ 4 ⌝ }
 {
@@ -138,7 +138,7 @@ fn take_fragment(t: &mut [u64], area: &mut [u8], a: &[u64], payload: &[u8])
     told(t, &area[..n], r);
 }
 
-// The same, its payload not yet bytes
+// 32, its payload to be made of words
 fn with_payload(t: &mut [u64], area: &mut [u8], a: &[u64], bytes: &mut [u8])
     requires { ⌜ Good (now t) × (7 ≤ length (now a)) ⌝ }
     ensures { λ _. ⌜ Good (now (t .exit)) ⌝ }
@@ -164,6 +164,7 @@ fn show(t: &[u64], area: &[u8], a: &[u64])
     show_bytes(shown);
 }
 
+// A refusal, or 0 and how many were dropped; then the digest of the record.
 fn told_cleaned(c: Cleaned, digest: u64) {
     match c {
         Cleaned::Refused(k) => first(k as u64),
@@ -203,6 +204,14 @@ fn list_missing(t: &[u64], a: &[u64], out: &mut [u32])
     }
 }
 
+// 35, its list to be lent
+fn list_lent(t: &[u64], a: &[u64])
+    requires { ⌜ Good (now t) × (length (now a) ≡ 2) ⌝ }
+{
+    let mut out = [90u32; 300];
+    list_missing(t, a, &mut out);
+}
+
 // 33; 35; 36 number; 37
 fn ask(t: &[u64], area: &[u8], a: &[u64])
     requires { ⌜ Good (now t) ⌝ }
@@ -211,8 +220,7 @@ fn ask(t: &[u64], area: &[u8], a: &[u64])
         return show(t, area, a);
     }
     if a.len() == 2 {
-        let mut out = [90u32; 300];
-        return list_missing(t, a, &mut out);
+        return list_lent(t, a);
     }
     if a.len() == 1 {
         return flag(is_partially_received(t, signed(a[0])));
@@ -220,17 +228,41 @@ fn ask(t: &[u64], area: &[u8], a: &[u64])
     line(in_assembly(t) as u64);
 }
 
+// 31, on words that hold 90 each
+fn start_fresh(a: &[u64])
+    requires { ⌜ length (now a) ≡ 4 ⌝ }
+{
+    let mut lent = [90u64; 1000];
+    start_on(a, &mut lent);
+}
+
+// 32, bytes for its payload to be lent
+fn take_words(t: &mut [u64], area: &mut [u8], a: &[u64])
+    requires { ⌜ Good (now t) × (7 ≤ length (now a)) ⌝ }
+    ensures { λ _. ⌜ Good (now (t .exit)) ⌝ }
+{
+    let mut bytes = [0u8; 1100];
+    with_payload(t, area, a, &mut bytes);
+}
+
+// 34, its list to be lent
+fn clean_lent(t: &mut [u64], a: &[u64])
+    requires { ⌜ Good (now t) × (length (now a) ≡ 2) ⌝ }
+    ensures { λ _. ⌜ Good (now (t .exit)) ⌝ }
+{
+    let mut out = [90i64; 300];
+    clean(t, a, &mut out);
+}
+
 pub(crate) fn call(t: &mut [u64], area: &mut [u8], code: u64, a: &[u64])
     requires { ⌜ Good (now t) ⌝ }
     ensures { λ _. ⌜ Good (now (t .exit)) ⌝ }
 {
     if 7 <= a.len() {
-        let mut bytes = [0u8; 1100];
-        return with_payload(t, area, a, &mut bytes);
+        return take_words(t, area, a);
     }
     if a.len() == 4 {
-        let mut lent = [90u64; 1000];
-        return start_on(a, &mut lent);
+        return start_fresh(a);
     }
     if a.len() == 3 {
         if code == 0x30 {
@@ -239,8 +271,7 @@ pub(crate) fn call(t: &mut [u64], area: &mut [u8], code: u64, a: &[u64])
     }
     if a.len() == 2 {
         if code == 0x34 {
-            let mut out = [90i64; 300];
-            return clean(t, a, &mut out);
+            return clean_lent(t, a);
         }
     }
     ask(t, area, a);

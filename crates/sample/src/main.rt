@@ -106,6 +106,20 @@ fn answer_lines(
     }
 }
 
+// All input, on good records.
+fn answer_input(
+    proxy: &mut [u64],
+    assembler: &mut [u64],
+    area: &mut [u8],
+    words: &mut [u64],
+    input: &mut [u8],
+)
+    requires { ⌜ GoodProxy (now proxy) × GoodAssembler (now assembler) ⌝ }
+{
+    let n = io::read_full(STDIN_FILENO, input);
+    answer_lines(proxy, assembler, area, words, &input[..n]);
+}
+
 // Both records from set-up, so that they are good from the first line on.
 fn run(
     proxy: &mut [u64],
@@ -120,8 +134,7 @@ fn run(
     let Start::Ready = fragment_assembler::set_up(assembler, 1, true, 1) else {
         return;
     };
-    let n = io::read_full(STDIN_FILENO, input);
-    answer_lines(proxy, assembler, area, words, &input[..n]);
+    answer_input(proxy, assembler, area, words, input);
 }
 
 fn main() {

@@ -1,5 +1,6 @@
 // The calls on a writer proxy: codes 40 to 4a. One record serves from line to line.
 ghost use mathlib.Core.Path.{_≡_};
+ghost use Prim.Native.Nat.{_≤_};
 ghost use lib.ListN.{length};
 ghost use Rattle.proxy_record.specs.Record.{Good};
 use crate::args::signed;
@@ -27,8 +28,8 @@ use writer_proxy::query::should_ignore_change;
 use writer_proxy::received::received_changes_add;
 use writer_proxy::set_up::set_up;
 
-// A refusal; or 0 and 0; or 0, 1 and the forced step. Then the base and the digest of the record.
-fn told(r: Report, base: u64, digest: u64) {
+// A refusal; or 0 and 0; or 0, 1 and the forced step.
+fn told_report(r: Report) {
     match r {
         Report::Done => {
             first(0);
@@ -42,11 +43,19 @@ fn told(r: Report, base: u64, digest: u64) {
         }
         Report::Refused(k) => first(k as u64),
     }
-    next(base);
-    next(digest);
+}
+
+// What became of a call, the base after it, and the digest of the record.
+fn told(t: &[u64], r: Report)
+    requires { ⌜ Good (now t) ⌝ }
+{
+    told_report(r);
+    next(all_ackable_before(t));
+    next(words_digest(t));
     end();
 }
 
+// What became of set-up, and the digest of its words.
 fn told_set_up(r: Report, digest: u64) {
     match r {
         Report::Done => return pair(0, digest),
@@ -55,7 +64,7 @@ fn told_set_up(r: Report, digest: u64) {
     }
 }
 
-// 41 room: set-up on words that hold 90 each
+// 41 room: on lent words
 fn start_on(room: u64, lent: &mut [u64]) {
     if (lent.len() as u64) < room {
         return no_call();
@@ -94,6 +103,14 @@ fn list_missing(t: &[u64], a: &[u64], out: &mut [i64])
     }
 }
 
+// 4a, its list to be lent
+fn list_lent(t: &[u64], a: &[u64])
+    requires { ⌜ Good (now t) × (length (now a) ≡ 3) ⌝ }
+{
+    let mut out = [90i64; 300];
+    list_missing(t, a, &mut out);
+}
+
 // 46 and 47 number; 48; 49; 4a
 fn ask(t: &[u64], code: u64, a: &[u64])
     requires { ⌜ Good (now t) ⌝ }
@@ -107,8 +124,7 @@ fn ask(t: &[u64], code: u64, a: &[u64])
         }
     }
     if a.len() == 3 {
-        let mut out = [90i64; 300];
-        return list_missing(t, a, &mut out);
+        return list_lent(t, a);
     }
     if code == 0x48 {
         return told_last(last_change(t));
@@ -147,6 +163,25 @@ fn start(t: &mut [u64])
     told_set_up(r, words_digest(t));
 }
 
+// 41, on words that hold 90 each
+fn start_fresh(room: u64) {
+    let mut lent = [90u64; 1000];
+    start_on(room, &mut lent);
+}
+
+// 42 to 45
+fn change(t: &mut [u64], code: u64, a: &[u64])
+    requires { ⌜ Good (now t) × (1 ≤ length (now a)) ⌝ }
+    ensures { λ _. ⌜ Good (now (t .exit)) ⌝ }
+{
+    if a.len() < 2 {
+        let r = change_one(t, code, a[0]);
+        return told(t, r);
+    }
+    let r = change_two(t, code, a[0], a[1]);
+    told(t, r);
+}
+
 pub(crate) fn call(t: &mut [u64], code: u64, a: &[u64])
     requires { ⌜ Good (now t) ⌝ }
     ensures { λ _. ⌜ Good (now (t .exit)) ⌝ }
@@ -158,13 +193,7 @@ pub(crate) fn call(t: &mut [u64], code: u64, a: &[u64])
         return start(t);
     }
     if code == 0x41 {
-        let mut lent = [90u64; 1000];
-        return start_on(a[0], &mut lent);
+        return start_fresh(a[0]);
     }
-    if a.len() < 2 {
-        let r = change_one(t, code, a[0]);
-        return told(r, all_ackable_before(t), words_digest(t));
-    }
-    let r = change_two(t, code, a[0], a[1]);
-    told(r, all_ackable_before(t), words_digest(t));
+    change(t, code, a);
 }

@@ -55,20 +55,31 @@ fn fragment_set(a: &[u64], at: usize) -> FragmentNumberSet
     }
 }
 
+fn write_number(code: u64, a: &[u64], out: &mut [u8]) -> Written
+    requires { ⌜ 3 ≤ length (now a) ⌝ }
+{
+    if code == 0x10 {
+        return write_sequence_number(order(a[0]), signed(a[2]), out);
+    }
+    write_fragment_number(order(a[0]), low_word(a[2]), out)
+}
+
+fn write_set(code: u64, a: &[u64], out: &mut [u8]) -> Written
+    requires { ⌜ 12 ≤ length (now a) ⌝ }
+{
+    if code == 0x13 {
+        return sequence_set(a, 2).write_to(order(a[0]), out);
+    }
+    fragment_set(a, 2).write_to(order(a[0]), out)
+}
+
 fn write_any(code: u64, a: &[u64], out: &mut [u8]) -> Written
     requires { ⌜ 3 ≤ length (now a) ⌝ }
 {
-    let o = order(a[0]);
     if a.len() < 12 {
-        if code == 0x10 {
-            return write_sequence_number(o, signed(a[2]), out);
-        }
-        return write_fragment_number(o, low_word(a[2]), out);
+        return write_number(code, a, out);
     }
-    if code == 0x13 {
-        return sequence_set(a, 2).write_to(o, out);
-    }
-    fragment_set(a, 2).write_to(o, out)
+    write_set(code, a, out)
 }
 
 // 10 and 20 order room number; 13 and 23 order room base count word ..
@@ -107,29 +118,25 @@ fn told_set(refusal: u8, taken: u64, base: u64, count: u32, words: [u32; 8]) {
     show_words(&words);
 }
 
+fn told_sequence_set(refusal: u8, taken: u64, set: SequenceNumberSet) {
+    let words = set.words;
+    told_set(refusal, taken, bits_of(set.base), set.count, words);
+}
+
+fn told_fragment_set(refusal: u8, taken: u64, set: FragmentNumberSet) {
+    let words = set.words;
+    told_set(refusal, taken, set.base as u64, set.count, words);
+}
+
 fn read_set(code: u64, o: ByteOrder, bytes: &[u8]) {
     if code == 0x12 {
         let read = SequenceNumberSet::read_from(o, bytes);
         let set = read.set;
-        let words = set.words;
-        return told_set(
-            read.refusal,
-            read.taken as u64,
-            bits_of(set.base),
-            set.count,
-            words,
-        );
+        return told_sequence_set(read.refusal, read.taken as u64, set);
     }
     let read = FragmentNumberSet::read_from(o, bytes);
     let set = read.set;
-    let words = set.words;
-    told_set(
-        read.refusal,
-        read.taken as u64,
-        set.base as u64,
-        set.count,
-        words,
-    );
+    told_fragment_set(read.refusal, read.taken as u64, set);
 }
 
 // 11 and 21, a number, and 12 and 22, a set: order byte ..
@@ -204,8 +211,7 @@ fn make_sequence(a: &[u64], list: &mut [i64])
     to_signed(&a[1..], list);
     let made = SequenceNumberSet::from_base_and_set(signed(a[0]), &list[..n]);
     let set = made.set;
-    let words = set.words;
-    told_set(made.refusal, 0, bits_of(set.base), set.count, words);
+    told_sequence_set(made.refusal, 0, set);
 }
 
 // 26 base number ..
@@ -219,8 +225,7 @@ fn make_fragment(a: &[u64], list: &mut [u32])
     to_words(&a[1..], list);
     let made = FragmentNumberSet::from_base_and_set(low_word(a[0]), &list[..n]);
     let set = made.set;
-    let words = set.words;
-    told_set(made.refusal, 0, set.base as u64, set.count, words);
+    told_fragment_set(made.refusal, 0, set);
 }
 
 // A call that takes a set.

@@ -173,17 +173,19 @@ fn evictions(sample: &mut Recorder) {
         sample.fragment(&one(5, 1));
     }
     // As document 01 says it: 1 to 128, then 129.
-    for (reliable, count) in [(true, 1), (false, 1), (true, 2), (false, 2)] {
+    for reliable in [true, false] {
         sample.assembler_new(4, reliable, 8);
         open_all(sample, 1..=128);
-        let payload = b"12345678".to_vec();
-        sample.fragment(&Fragment {
-            number: 129,
-            count,
-            data_size: 8,
-            payload,
-            ..sound(8)
-        });
+        for count in [2, 1] {
+            let payload = b"12345678".to_vec();
+            sample.fragment(&Fragment {
+                number: 129,
+                count,
+                data_size: 8,
+                payload,
+                ..sound(8)
+            });
+        }
         sample.has(1);
         sample.has(128);
         sample.has(129);
@@ -193,7 +195,7 @@ fn evictions(sample: &mut Recorder) {
 
 /// Below the cutoff, at it and above it; rooms one short, exact and longer; numbers rising whatever their places.
 fn cleaning(sample: &mut Recorder) {
-    for room in [0, 2, 3, 4, 6] {
+    for room in [0, 2, 3, 6] {
         for cutoff in [0, 9, 10, 11, 20, 21, 30, 31, u64::MAX] {
             sample.assembler_new(4, true, 12);
             for (number, time) in [(7, 20), (3, 10), (9, 9), (1, 30), (5, u64::MAX)] {

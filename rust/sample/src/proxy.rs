@@ -179,7 +179,6 @@ fn steps(sample: &mut Recorder) {
 fn fill(sample: &mut Recorder, many: i64, by: u64) {
     sample.proxy_new();
     match by {
-        0 => (0..many).for_each(|i| sample.received(10 + 2 * i, i as u64)),
         1 => sample.range(10, 10 + many),
         _ => {
             sample.range(10, 10 + many - 4);
@@ -202,17 +201,24 @@ fn cap(sample: &mut Recorder) {
                     _ => sample.received(1, 9),
                 }
                 sample.received(2002, 9);
-                ask(sample, &[1, 10, 11, 12, 13, 2000]);
+                ask(sample, &[10, 12]);
             }
         }
     }
-    fill(sample, 257, 0);
-    ask(sample, &[10, 11, 12, 13, 522]);
-    // Forced, then the base received: the base moves on.
-    sample.received(11, 5);
-    sample.irrelevant(13);
-    sample.irrelevant(14);
-    ask(sample, &[11, 12, 13, 14, 15]);
+    // Numbers with gaps, forced one after the other; then the base received, so that it moves on.
+    sample.proxy_new();
+    sample.range(40, 40 + 248);
+    for i in 0..12 {
+        sample.received(10 + 2 * i, i as u64);
+    }
+    ask(sample, &[10, 16, 17, 18]);
+    sample.received(500, 5);
+    sample.irrelevant(502);
+    let base = sample.ack_base();
+    sample.received(base, 6);
+    sample.irrelevant(base + 2);
+    sample.irrelevant(base + 1);
+    ask(sample, &[base, base + 1, base + 2, base + 3]);
     for many in [255, 256, 257, 511, 512, 513, 1000, 4096] {
         sample.proxy_new();
         sample.received(2, 1);

@@ -120,7 +120,7 @@ fn walk(sample: &mut Recorder, random: &mut Random) {
     for kind in Kind::BOTH {
         for count in COUNTS {
             // The long ones by a few patterns only: they are what fills the sample.
-            let many = if count > 100 { 4 } else { 6 };
+            let many = if count > 100 { 3 } else { 5 };
             for words in patterns(random).into_iter().rev().take(many) {
                 let set = set_at(100, count, words);
                 let room = members(&set);
@@ -137,7 +137,7 @@ fn walk(sample: &mut Recorder, random: &mut Random) {
 /// A member at the last number of its type, one past it, and what is asked first: 2, 4, 3.
 fn walk_at_the_end(sample: &mut Recorder) {
     for kind in Kind::BOTH {
-        for i in [0, 1, 31, 32, 33, 200, 255] {
+        for i in [0, 31, 32, 255] {
             let mut words = [0; 8];
             words[i as usize / 32] = 0x8000_0000 >> (i % 32);
             for up in [true, false] {

@@ -30,22 +30,13 @@ same-length-2 c = search needs
 returns : tie.Need-returns
 returns c = search needs
 
-read-full-requires : tie.Need-read-full-requires
-read-full-requires c κs = search needs
-
-slice-reshare-prefix-answer-lines : tie.Need-slice-reshare-prefix-answer-lines
-slice-reshare-prefix-answer-lines c = search needs
-
-slice-aggregate-answer-lines : tie.Need-slice-aggregate-answer-lines
-slice-aggregate-answer-lines c = search needs
-
-answer-lines-requires : tie.Need-answer-lines-requires
-answer-lines-requires c κs =
-    let s = c .before .before .before .before .before .before .before .before .before .before .before .before .before .before .before .before .before .set-up in
-    let a = c .before .before .before .before .before .before .before .before .before .before .before .before .before .set-up2 in
-    let p = c .before .before .before .before .before .before .before .before .before .before .before .before .before .before .before .before .before .before .before .before .before .before .before .before .pre in (
+answer-input-requires : tie.Need-answer-input-requires
+answer-input-requires c κs =
+    let s = c .before .before .before .before .before .before .before .before .before .before .before .before .before .set-up in
+    let a = c .before .before .before .before .before .before .before .before .before .set-up2 in
+    let p = c .before .before .before .before .before .before .before .before .before .before .before .before .before .before .before .before .before .before .before .before .pre in (
       subst GoodProxy (take-all 775 (s .last .0) (omega (arith, s .kept .0, p .0))) (s .ensures .1 (omega (arith, p .0))),
-      set-up-record _ _ _ _ _ _ (a .ensures) (omega (arith, a .kept .0, p .1)) (ap startedOf (c .before .before .before .before .before .before .before .before .before .enum-told .given .1)),
+      set-up-record _ _ _ _ _ _ (a .ensures) (omega (arith, a .kept .0, p .1)) (ap startedOf (c .before .before .before .before .before .enum-told .given .1)),
     )
 
 same-length-3 : tie.Need-same-length-3
@@ -77,10 +68,7 @@ run-spec =
     same-length
     same-length-2
     returns
-    read-full-requires
-    slice-reshare-prefix-answer-lines
-    slice-aggregate-answer-lines
-    answer-lines-requires
+    answer-input-requires
     same-length-3
     same-length-4
     same-length-5

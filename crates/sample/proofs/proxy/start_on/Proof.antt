@@ -1,4 +1,4 @@
--- `sample::proxy::start_on` is safe. Assumes nothing.
+-- `sample::proxy::start_on` is safe: a part that is lent is as long as the room says. Assumes nothing.
 use native.Mathlib.Omega.{arith}
 use lib.ListN.{length-take}
 use borrow.Author.Needs.{needs}

@@ -1,4 +1,4 @@
--- `sample::sets::make_fragment` is safe. Assumes nothing.
+-- `sample::sets::make_fragment` is safe: a part that is lent is as long as the room says. Assumes nothing.
 use native.Mathlib.Omega.{arith}
 use lib.ListN.{length-take}
 use borrow.Author.Needs.{needs}
@@ -41,11 +41,8 @@ slice-aggregate-from-base-and-set c = simp length-take (omega arith)
 from-base-and-set-requires : tie.Need-from-base-and-set-requires
 from-base-and-set-requires c κs = search needs
 
-cast-told-set : tie.Need-cast-told-set
-cast-told-set c = search needs
-
-told-set-requires : tie.Need-told-set-requires
-told-set-requires c κs = search needs
+told-fragment-set-requires : tie.Need-told-fragment-set-requires
+told-fragment-set-requires c κs = search needs
 
 same-length : tie.Need-same-length
 same-length c = search needs
@@ -69,7 +66,6 @@ make-fragment-spec =
     slice-reshare-prefix-from-base-and-set
     slice-aggregate-from-base-and-set
     from-base-and-set-requires
-    cast-told-set
-    told-set-requires
+    told-fragment-set-requires
     same-length
     returns-2)

@@ -1,4 +1,4 @@
--- `sample::sets::make_sequence` is safe. Assumes nothing.
+-- `sample::sets::make_sequence` is safe: a part that is lent is as long as the room says. Assumes nothing.
 use native.Mathlib.Omega.{arith}
 use lib.ListN.{length-take}
 use borrow.Author.Needs.{needs}
@@ -41,11 +41,8 @@ slice-aggregate-from-base-and-set c = simp length-take (omega arith)
 from-base-and-set-requires : tie.Need-from-base-and-set-requires
 from-base-and-set-requires c κs = search needs
 
-bits-of-requires : tie.Need-bits-of-requires
-bits-of-requires c κs = search needs
-
-told-set-requires : tie.Need-told-set-requires
-told-set-requires c κs = search needs
+told-sequence-set-requires : tie.Need-told-sequence-set-requires
+told-sequence-set-requires c κs = search needs
 
 same-length : tie.Need-same-length
 same-length c = search needs
@@ -69,7 +66,6 @@ make-sequence-spec =
     slice-reshare-prefix-from-base-and-set
     slice-aggregate-from-base-and-set
     from-base-and-set-requires
-    bits-of-requires
-    told-set-requires
+    told-sequence-set-requires
     same-length
     returns-2)
