@@ -16,6 +16,7 @@ fn main() {
         eprintln!("the static library was not found: run `rt staticlib receiver` at the repository's root");
         std::process::exit(1);
     }
+    println!("cargo:rustc-env=RECEIVER_FOUND={}", folder.display());
     println!("cargo:rustc-link-search=native={}", folder.display());
     println!("cargo:rustc-link-lib=static=receiver");
 }

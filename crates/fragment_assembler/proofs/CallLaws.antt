@@ -11,6 +11,7 @@ use lib.ListN.{length, getD, set, replicate, length-set, length-replicate}
 use lib.Seq.{paste, length-paste, getD-set-same}
 use borrow.Author.Tests.{ltb-true, ltb-false, eq-eqb, ne-eqb}
 use Rattle.sequence_number.specs.Number.{top}
+use Rattle.sequence_number.specs.Outcome.{refused}
 use Rattle.sequence_number.proofs.Split.{split, split-lt, split-eq}
 use Rattle.fragment_assembler.proofs.AreaLaws.{paste-left, apart, paste-right}
 use Rattle.fragment_assembler.proofs.FragmentsLaws.{fragment-starts}
@@ -18,7 +19,7 @@ use Rattle.fragment_assembler.proofs.MarksLaws.{marked-none, length-run
 use Rattle.fragment_assembler.proofs.RefusalLaws.{OpenOk, Passed, passed}
 use Rattle.fragment_assembler.proofs.RulesLaws.{rests-sample}
 use Rattle.fragment_assembler.proofs.TableLaws.{count-spare, count-full, highest-found, lowest-found, find-hit, spare-find, at-set, howMany-lacks, each-set, find-miss, inside-at}
-use Rattle.fragment_assembler.specs.Call.{begin, known, fresh, settle, kept, dropped, victim, finish, Work, isWhole, returned, fragment, accepted, refused, outcome, opened, run, runAt, runLength, Settled, Outcome}
+use Rattle.fragment_assembler.specs.Call.{begin, known, fresh, settle, kept, dropped, victim, finish, Work, isWhole, returned, fragment, accepted, afterCall, opened, run, runAt, runLength, Settled, After}
 use Rattle.fragment_assembler.specs.Fragments.{brings, firstByte}
 use Rattle.fragment_assembler.specs.Inner.{RunOk}
 use Rattle.fragment_assembler.specs.Marks.{covers}
@@ -63,7 +64,7 @@ unfolding fragment
 fragment-accepted a area c e = rw (eq-eqb (refusal a (length area) c) 0 e)
 
 pub fragment-refused : (a : Assembler) (area : List ℕ) (c : Call) → (refusal a (length area) c ≡ 0 → ⊥)
-    → fragment a area c ≡ outcome (refused (refusal a (length area) c)) a area
+    → fragment a area c ≡ afterCall (refused (refusal a (length area) c)) a area
 unfolding fragment
 fragment-refused a area c e = rw (ne-eqb (refusal a (length area) c) 0 e)
 
@@ -269,6 +270,6 @@ accepted-ok a area c g q =
 pub fragment-ok : (a : Assembler) (area : List ℕ) (c : Call) → Ok a → Ok (fragment a area c .state)
 fragment-ok a area c g =
     ⊎-elim
-    (λ e. subst (λ (o : Outcome). Ok (o .state)) (sym (fragment-accepted a area c e)) (accepted-ok a area c g (passed a (length area) c e)))
-    (λ e. subst (λ (o : Outcome). Ok (o .state)) (sym (fragment-refused a area c e)) g)
+    (λ e. subst (λ (o : After). Ok (o .state)) (sym (fragment-accepted a area c e)) (accepted-ok a area c g (passed a (length area) c e)))
+    (λ e. subst (λ (o : After). Ok (o .state)) (sym (fragment-refused a area c e)) g)
     (split-eq (refusal a (length area) c) 0)

@@ -6,14 +6,14 @@ use mathlib.Core.Bool.{Bool}
 use mathlib.Core.List.{List}
 use lib.IntN.{ℤ}
 use Rattle.sequence_number.specs.Number.{numberOf}
-use Rattle.fragment_assembler.specs.Call.{Fate, fateOf, outcome, Outcome}
-use Rattle.fragment_assembler.specs.Clean.{cleaning, Cleaning}
-use Rattle.fragment_assembler.specs.Listing.{Told}
-use Rattle.fragment_assembler.specs.Missing.{missed, Missed}
+use Rattle.sequence_number.specs.Outcome.{Outcome, refused, done}
+use Rattle.fragment_assembler.specs.Call.{Fate, fateOf, afterCall, After, kept, returned, dropped}
+use Rattle.fragment_assembler.specs.Clean.{cleanedOf, cleaning, Cleaning}
+use Rattle.fragment_assembler.specs.Missing.{listedOf, missed, Missed}
 use Rattle.fragment_assembler.specs.Promise.{SetsUp, Does, Cleans, Misses}
 use Rattle.fragment_assembler.specs.Refusal.{Call}
 use Rattle.fragment_assembler.specs.Rules.{Good}
-use Rattle.fragment_assembler.specs.SetUp.{Started, startedOf, setting, Setting}
+use Rattle.fragment_assembler.specs.SetUp.{startedOf, setting, Setting}
 use Rattle.fragment_assembler.specs.Table.{inAssembly, count}
 use Rattle.fragment_assembler.specs.View.{shown}
 use Rattle.fragment_assembler.specs.Words.{stateOf, recordOf}
@@ -25,47 +25,42 @@ use Rattle.fragment_assembler.specs.declared.Answer.the-variants as answ
 use Rattle.fragment_assembler.specs.declared.Start.the-variants as start
 use Rattle.fragment_assembler.specs.declared.Cleaned.the-variants as cleaned
 use Rattle.fragment_assembler.specs.declared.Listing.the-variants as listing
-use Rattle.fragment_assembler.specs.Call as call
-use Rattle.fragment_assembler.specs.SetUp as setup
-use Rattle.fragment_assembler.specs.Listing as told
-use Rattle.fragment_assembler.specs.Clean as clean
-use Rattle.fragment_assembler.specs.Missing as missing
 
 -- ---- what an answer says determines it
 
-abbrev answerOf : Fate → Answer
-answerOf (call.refused n) = answer.Refused n
-answerOf call.kept = answer.Kept
-answerOf (call.returned n i d) = answer.Returned n i d
-answerOf (call.dropped n) = answer.Dropped n
+abbrev answer-from : Outcome Fate → Answer
+answer-from (refused n) = answer.Refused n
+answer-from (done kept) = answer.Kept
+answer-from (done (returned n i d)) = answer.Returned n i d
+answer-from (done (dropped n)) = answer.Dropped n
 
-answer-back : (r : Answer) → answerOf (fateOf r) ≡ r
+answer-back : (r : Answer) → answer-from (fateOf r) ≡ r
 answer-back (answer.Refused n) = refl
 answer-back answer.Kept = refl
 answer-back (answer.Returned n i d) = refl
 answer-back (answer.Dropped n) = refl
 
-abbrev startOf : Started → Start
-startOf (setup.refused n) = start.Refused n
-startOf setup.ready = start.Ready
+abbrev start-from : Outcome (Unit {0}) → Start
+start-from (refused n) = start.Refused n
+start-from (done x) = start.Ready
 
-start-back : (r : Start) → startOf (startedOf r) ≡ r
+start-back : (r : Start) → start-from (startedOf r) ≡ r
 start-back (start.Refused n) = refl
 start-back start.Ready = refl
 
-abbrev cleanedOf : Told → Cleaned
-cleanedOf (told.refused n) = cleaned.Refused n
-cleanedOf (told.wrote n) = cleaned.Dropped n
+abbrev cleaned-from : Outcome ℕ → Cleaned
+cleaned-from (refused n) = cleaned.Refused n
+cleaned-from (done n) = cleaned.Dropped n
 
-cleaned-back : (r : Cleaned) → cleanedOf (clean.toldOf r) ≡ r
+cleaned-back : (r : Cleaned) → cleaned-from (cleanedOf r) ≡ r
 cleaned-back (cleaned.Refused n) = refl
 cleaned-back (cleaned.Dropped n) = refl
 
-abbrev listingOf : Told → Listing
-listingOf (told.refused n) = listing.Refused n
-listingOf (told.wrote n) = listing.Listed n
+abbrev listing-from : Outcome ℕ → Listing
+listing-from (refused n) = listing.Refused n
+listing-from (done n) = listing.Listed n
 
-listing-back : (r : Listing) → listingOf (missing.toldOf r) ≡ r
+listing-back : (r : Listing) → listing-from (listedOf r) ≡ r
 listing-back (listing.Refused n) = refl
 listing-back (listing.Listed n) = refl
 
@@ -79,22 +74,22 @@ pub set-up-determined : (w : List ℕ) (f : ℕ) (reliable : Bool) (p : ℕ) (r 
     → SetsUp w f reliable p r w₁ → SetsUp w f reliable p r′ w₂ → (r ≡ r′) × (w₁ ≡ w₂)
 set-up-determined w f reliable p r r′ w₁ w₂ h k =
     let e : setting (startedOf r) w₁ ≡ setting (startedOf r′) w₂ = h .same ∙ sym (k .same) in
-    (sym (start-back r) ∙ ap (λ (s : Setting). startOf (s .answer)) e ∙ start-back r′, ap (λ (s : Setting). s .words) e)
+    (sym (start-back r) ∙ ap (λ (s : Setting). start-from (s .answer)) e ∙ start-back r′, ap (λ (s : Setting). s .words) e)
 
 pub new-datafrag-determined : (w area : List ℕ) (c : Call) (r r′ : Answer) (w₁ w₂ after after′ : List ℕ)
     → Does w area c r w₁ after → Does w area c r′ w₂ after′ → (r ≡ r′) × (w₁ ≡ w₂) × (after ≡ after′)
 new-datafrag-determined w area c r r′ w₁ w₂ after after′ h k =
-    let e : outcome (fateOf r) (stateOf w₁) after ≡ outcome (fateOf r′) (stateOf w₂) after′ = h .same ∙ sym (k .same) in (
-      sym (answer-back r) ∙ ap (λ (o : Outcome). answerOf (o .answer)) e ∙ answer-back r′,
-      same-words w₁ w₂ (h .good) (k .good) (ap (λ (o : Outcome). o .state) e),
-      ap (λ (o : Outcome). o .area) e,
+    let e : afterCall (fateOf r) (stateOf w₁) after ≡ afterCall (fateOf r′) (stateOf w₂) after′ = h .same ∙ sym (k .same) in (
+      sym (answer-back r) ∙ ap (λ (o : After). answer-from (o .answer)) e ∙ answer-back r′,
+      same-words w₁ w₂ (h .good) (k .good) (ap (λ (o : After). o .state) e),
+      ap (λ (o : After). o .area) e,
     )
 
 pub garbage-collect-before-determined : (w : List ℕ) (t : ℕ) (out : List ℤ) (r r′ : Cleaned) (w₁ w₂ : List ℕ) (after after′ : List ℤ)
     → Cleans w t out r w₁ after → Cleans w t out r′ w₂ after′ → (r ≡ r′) × (w₁ ≡ w₂) × (after ≡ after′)
 garbage-collect-before-determined w t out r r′ w₁ w₂ after after′ h k =
-    let e : cleaning (clean.toldOf r) (stateOf w₁) after ≡ cleaning (clean.toldOf r′) (stateOf w₂) after′ = h .same ∙ sym (k .same) in (
-      sym (cleaned-back r) ∙ ap (λ (o : Cleaning). cleanedOf (o .answer)) e ∙ cleaned-back r′,
+    let e : cleaning (cleanedOf r) (stateOf w₁) after ≡ cleaning (cleanedOf r′) (stateOf w₂) after′ = h .same ∙ sym (k .same) in (
+      sym (cleaned-back r) ∙ ap (λ (o : Cleaning). cleaned-from (o .answer)) e ∙ cleaned-back r′,
       same-words w₁ w₂ (h .good) (k .good) (ap (λ (o : Cleaning). o .state) e),
       ap (λ (o : Cleaning). o .list) e,
     )
@@ -102,8 +97,8 @@ garbage-collect-before-determined w t out r r′ w₁ w₂ after after′ h k =
 pub missing-frags-for-determined : (w : List ℕ) (n : ℕ) (out : List ℕ) (r r′ : Listing) (after after′ : List ℕ)
     → Misses w n out r after → Misses w n out r′ after′ → (r ≡ r′) × (after ≡ after′)
 missing-frags-for-determined w n out r r′ after after′ h k =
-    let e : missed (missing.toldOf r) after ≡ missed (missing.toldOf r′) after′ = h .same ∙ sym (k .same) in
-    (sym (listing-back r) ∙ ap (λ (o : Missed). listingOf (o .answer)) e ∙ listing-back r′, ap (λ (o : Missed). o .list) e)
+    let e : missed (listedOf r) after ≡ missed (listedOf r′) after′ = h .same ∙ sym (k .same) in
+    (sym (listing-back r) ∙ ap (λ (o : Missed). listing-from (o .answer)) e ∙ listing-back r′, ap (λ (o : Missed). o .list) e)
 
 -- a call whose promise is one equation for what it returns
 determined : {A : Type 0} (x r r′ : A) → r ≡ x → r′ ≡ x → r ≡ r′

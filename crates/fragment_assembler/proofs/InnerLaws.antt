@@ -9,13 +9,14 @@ use lib.ListN.{length, getD, set, replicate, length-set}
 use lib.Seq.{paste, getD-set-same, getD-set-other, set-set, set-getD}
 use lib.Dec.{eqb}
 use borrow.Author.Tests.{lt-ltb, le-ltb}
+use Rattle.sequence_number.specs.Outcome.{Outcome, refused, done}
 use Rattle.fragment_assembler.proofs.CallLaws.{settle-kept, victim-found, settle-dropped, finish-whole, finish-not, inside, run-start, fragment-accepted, fragment-ok, fragment-refused, begin-known, opened-sample, begin-fresh}
 use Rattle.fragment_assembler.proofs.FragmentsLaws.{fragment-starts}
 use Rattle.fragment_assembler.proofs.RefusalLaws.{Passed, passed}
 use Rattle.fragment_assembler.proofs.RulesLaws.{good-mode, rests-sample, good-spare}
 use Rattle.fragment_assembler.proofs.TableLaws.{find-hit, find-some}
 use Rattle.fragment_assembler.proofs.WordsLaws.{head-same, round, became-then, length-places, size-at}
-use Rattle.fragment_assembler.specs.Call.{Settled, settle, victim, dropped, isWhole, finish, returned, fragment, run, Work, begin, accepted, outcome, fateOf, Fate, Outcome, refused, opened}
+use Rattle.fragment_assembler.specs.Call.{Settled, settle, victim, dropped, isWhole, finish, returned, fragment, run, Work, begin, accepted, afterCall, fateOf, Fate, After, opened}
 use Rattle.fragment_assembler.specs.Fragments.{fragments, brings}
 use Rattle.fragment_assembler.specs.Inner.{Became, Ends, workOf, Closes, Runs, ran, Worked, RunOk, openedRow}
 use Rattle.fragment_assembler.specs.Marks.{all, marked}
@@ -69,7 +70,7 @@ module _ (w : List ℕ) (m : Bool) where
       let j : i ≡ find (victim m (placesOf w)) (placesOf w) = f ∙ ap (λ (n : ℕ). find n (placesOf w)) e in
       ends-as w _ _ (Dropped v) w′ (sym (settle-dropped m (placesOf w) (length-places w) h))
       (record {
-        answer = ap dropped e;
+        answer = ap (λ (n : ℕ). done (dropped n)) e;
         became = subst (λ (k : ℕ). Became w (set (placesOf w) k free) w′) j b;
       })
 
@@ -81,7 +82,7 @@ module _ (w : List ℕ) (seat : ℕ) where
       → Ends w (finish (stateOf w) (workOf seat (at (placesOf w) seat) [])) (Returned number seat size) w′
   ends-whole number size w′ t en es b =
       ends-as w _ _ (Returned number seat size) w′ (sym (finish-whole (stateOf w) (workOf seat (at (placesOf w) seat) []) t))
-      (record { answer = ap (λ (n : ℕ). returned n seat size) en ∙ ap (λ (n : ℕ). returned (at (placesOf w) seat .number) seat n) es; became = b })
+      (record { answer = ap (λ (n : ℕ). done (returned n seat size)) en ∙ ap (λ (n : ℕ). done (returned (at (placesOf w) seat .number) seat n)) es; became = b })
 
   pub ends-not : (r : Answer) (w′ : List ℕ) → isWhole (getD w 0 0) (at (placesOf w) seat) ≡ false
       → Ends w (settle (eqb (getD w 2 0) 1) (placesOf w)) r w′
@@ -199,15 +200,15 @@ unfolding accepted
 does w area c x r w′ after g e b h ea =
     let q = fragment-accepted (stateOf w) area c e in
     let st : stateOf w′ ≡ withPlaces (stateOf w) (finish (stateOf w) (run (stateOf w) c x) .places) = state-became w _ w′ (h .became) in
-    let all : outcome (fateOf r) (stateOf w′) after ≡ fragment (stateOf w) area c =
-    ap (λ (f : Fate). outcome f (stateOf w′) after) (h .answer)
-    ∙ ap (λ (s : Assembler). outcome (finish (stateOf w) (run (stateOf w) c x) .answer) s after) st
-    ∙ ap (λ (l : List ℕ). outcome (finish (stateOf w) (run (stateOf w) c x) .answer) (withPlaces (stateOf w) (finish (stateOf w) (run (stateOf w) c x) .places)) l) ea
-    ∙ ap (λ (y : Work). outcome (finish (stateOf w) (run (stateOf w) c y) .answer) (withPlaces (stateOf w) (finish (stateOf w) (run (stateOf w) c y) .places)) (run (stateOf w) c y .area)) (sym b)
+    let all : afterCall (fateOf r) (stateOf w′) after ≡ fragment (stateOf w) area c =
+    ap (λ (f : Outcome Fate). afterCall f (stateOf w′) after) (h .answer)
+    ∙ ap (λ (s : Assembler). afterCall (done (finish (stateOf w) (run (stateOf w) c x) .answer)) s after) st
+    ∙ ap (λ (l : List ℕ). afterCall (done (finish (stateOf w) (run (stateOf w) c x) .answer)) (withPlaces (stateOf w) (finish (stateOf w) (run (stateOf w) c x) .places)) l) ea
+    ∙ ap (λ (y : Work). afterCall (done (finish (stateOf w) (run (stateOf w) c y) .answer)) (withPlaces (stateOf w) (finish (stateOf w) (run (stateOf w) c y) .places)) (run (stateOf w) c y .area)) (sym b)
     ∙ sym q in
     record {
       same = all;
-      good = good-became w _ w′ g (h .became) (subst Ok (ap (λ (o : Outcome). o .state) (sym all)) (fragment-ok (stateOf w) area c (g .ok)));
+      good = good-became w _ w′ g (h .became) (subst Ok (ap (λ (o : After). o .state) (sym all)) (fragment-ok (stateOf w) area c (g .ok)));
     }
 
 -- the same call under an equal number
@@ -222,7 +223,7 @@ module _ (w area : List ℕ) (time number size total start count : ℕ) (payload
   does-refused k e z =
       record {
         same =
-            ap (λ (n : ℕ). outcome (refused n) (stateOf w) area) e
+            ap (λ (n : ℕ). afterCall (refused n) (stateOf w) area) e
             ∙ sym (fragment-refused (stateOf w) area (callOf time number size total start count payload) (λ x. z (e ∙ x)));
         good = g;
       }

@@ -5,7 +5,8 @@ use mathlib.Core.Path.{_≡_, refl}
 use mathlib.Core.Bool.{Bool}
 use mathlib.Core.List.{List, []}
 use lib.ListN.{length}
-use Rattle.fragment_assembler.specs.Call.{fragment, refused}
+use Rattle.sequence_number.specs.Outcome.{refused}
+use Rattle.fragment_assembler.specs.Call.{fragment}
 use Rattle.fragment_assembler.specs.Fragments.{fragments}
 use Rattle.fragment_assembler.specs.Refusal.{Call, callOf, refusal, rows}
 use Rattle.fragment_assembler.specs.SetUp.{empty}

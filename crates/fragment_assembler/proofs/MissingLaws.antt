@@ -11,10 +11,10 @@ use lib.Seq.{getD-append-seam, drop-cons, set-at, append-snoc}
 use lib.Dec.{leb}
 use borrow.Author.Tests.{leb-true, leb-false, lt-ltb, le-ltb, eq-eqb, ne-eqb}
 use Rattle.sequence_number.specs.Lent.{over}
+use Rattle.sequence_number.specs.Outcome.{refused, done}
 use Rattle.sequence_number.proofs.Split.{split, split-lt}
 use Rattle.fragment_assembler.proofs.WordsLaws.{length-places, marks-at, size-at}
 use Rattle.fragment_assembler.specs.Fragments.{fragments}
-use Rattle.fragment_assembler.specs.Listing.{wrote, refused}
 use Rattle.fragment_assembler.specs.Marks.{marked}
 use Rattle.fragment_assembler.specs.Missing.{gaps, missing, missingFor, missed}
 use Rattle.fragment_assembler.specs.Promise.{Misses}
@@ -92,13 +92,13 @@ module _ (w : List ℕ) (n k f : ℕ) (z : n ≡ 0 → ⊥) (e : k ≡ find n (p
         record {
           same =
               rw (le-ltb (length out) (length (missing (stateOf w) n)) (omega (arith, ap length missing-are)))
-              (ap (λ (j : ℕ). missed (wrote j) after) (ec ∙ ap length (sym missing-are))
-              ∙ ap (missed (wrote (length (missing (stateOf w) n)))) (ea ∙ ap (λ (g : List ℕ). over g out) (sym missing-are)));
+              (ap (λ (j : ℕ). missed (done j) after) (ec ∙ ap length (sym missing-are))
+              ∙ ap (missed (done (length (missing (stateOf w) n)))) (ea ∙ ap (λ (g : List ℕ). over g out) (sym missing-are)));
         }
 
 pub missing-cases : (a : Assembler) (n : ℕ) (out : List ℕ)
     → (length out < length (missing a n) → missingFor a n out ≡ missed (refused 3) out)
-    × (length (missing a n) ≤ length out → missingFor a n out ≡ missed (wrote (length (missing a n))) (over (missing a n) out))
+    × (length (missing a n) ≤ length out → missingFor a n out ≡ missed (done (length (missing a n))) (over (missing a n) out))
 unfolding missingFor
 missing-cases a n out = (λ h. rw (lt-ltb (length out) (length (missing a n)) h), λ h. rw (le-ltb (length out) (length (missing a n)) h))
 

@@ -9,14 +9,14 @@ use mathlib.Core.Logic.{_⊎_, inl, inr, ⊎-elim}
 use mathlib.Core.List.{List}
 use lib.ListN.{length, getD, set, take, drop, replicate, length-replicate, getD-replicate}
 use lib.Seq.{paste}
-use lib.Dec.{eqb}
 use borrow.Author.Tests.{le-leb, eq-eqb, ne-eqb}
+use Rattle.sequence_number.specs.Outcome.{refused, done}
 use Rattle.sequence_number.proofs.Split.{split, split-eq}
 use Rattle.fragment_assembler.proofs.AreaLaws.{paste-left, paste-right, paste-in}
 use Rattle.fragment_assembler.proofs.CallLaws.{Begun, begun, fragment-accepted, begin-known, begin-fresh, ran-long, run-long, inside, run-within, finish-whole, finish-not, fragment-refused}
 use Rattle.fragment_assembler.proofs.MarksLaws.{marked-run}
 use Rattle.fragment_assembler.proofs.RefusalLaws.{Passed, passed, first-exactly}
-use Rattle.fragment_assembler.specs.Call.{fragment, run, Work, begin, accepted, Outcome, fresh, runLength, runAt, finish, Settled, returned, isWhole, dropped, victim, settle, kept, refused}
+use Rattle.fragment_assembler.specs.Call.{fragment, run, Work, begin, accepted, After, fresh, runLength, runAt, finish, Settled, returned, isWhole, dropped, victim, settle, kept}
 use Rattle.fragment_assembler.specs.Fragments.{firstByte, endByte}
 use Rattle.fragment_assembler.specs.Marks.{marked, covers}
 use Rattle.fragment_assembler.specs.Refusal.{Call, refusal, GivenBy, rows}
@@ -45,7 +45,7 @@ module _ (a : Assembler) (area : List ℕ) (c : Call) (g : Ok a) (e : refusal a 
 
   area-is : fragment a area c .area ≡ run a c (begin a area c) .area
   unfolding accepted
-  area-is = ap (λ (o : Outcome). o .area) (fragment-accepted a area c e)
+  area-is = ap (λ (o : After). o .area) (fragment-accepted a area c e)
 
   pub placed-seat : (w .seat < 129) × (w .seat ≡ cond (has (a .places) (c .number)) (find (c .number) (a .places)) (find 0 (a .places)))
   placed-seat = (
@@ -129,56 +129,56 @@ module _ (a : Assembler) (area : List ℕ) (c : Call) (g : Ok a) (e : refusal a 
     λ j. marked-run (w .place .marks) (c .start - 1) (c .count) j (work .sample .long) (omega (arith, work .ok .fits, work .sample .few)),
   )
 
-  abbrev done : Work
-  done = run a c (begin a area c)
+  abbrev worked : Work
+  worked = run a c (begin a area c)
 
   ends-as-finish : (s : Settled) → finish a (run a c (begin a area c)) ≡ s
-      → (fragment a area c .answer ≡ s .answer) × (fragment a area c .state .places ≡ s .places)
+      → (fragment a area c .answer ≡ done (s .answer)) × (fragment a area c .state .places ≡ s .places)
   unfolding accepted
   ends-as-finish s h = (
-    ap (λ (o : Outcome). o .answer) (fragment-accepted a area c e) ∙ ap (λ (x : Settled). x .answer) h,
-    ap (λ (o : Outcome). o .state .places) (fragment-accepted a area c e) ∙ ap (λ (x : Settled). x .places) h,
+    ap (λ (o : After). o .answer) (fragment-accepted a area c e) ∙ ap (λ (x : Settled). done (x .answer)) h,
+    ap (λ (o : After). o .state .places) (fragment-accepted a area c e) ∙ ap (λ (x : Settled). x .places) h,
   )
 
-  pub ends-returned : isWhole (a .unit) (done .place) ≡ true
-      → (fragment a area c .answer ≡ returned (c .number) (w .seat) (w .place .size)) × (fragment a area c .state .places ≡ set (a .places) (w .seat) free)
+  pub ends-returned : isWhole (a .unit) (worked .place) ≡ true
+      → (fragment a area c .answer ≡ done (returned (c .number) (w .seat) (w .place .size))) × (fragment a area c .state .places ≡ set (a .places) (w .seat) free)
   unfolding run
-  ends-returned t = ends-as-finish _ (finish-whole a done t)
+  ends-returned t = ends-as-finish _ (finish-whole a worked t)
 
   abbrev table : List Place
-  table = set (a .places) (w .seat) (done .place)
+  table = set (a .places) (w .seat) (worked .place)
 
-  pub ends-drops : isWhole (a .unit) (done .place) ≡ false → count table ≡ 129
-      → (fragment a area c .answer ≡ dropped (victim (a .reliable) table))
+  pub ends-drops : isWhole (a .unit) (worked .place) ≡ false → count table ≡ 129
+      → (fragment a area c .answer ≡ done (dropped (victim (a .reliable) table)))
       × (fragment a area c .state .places ≡ set table (find (victim (a .reliable) table) table) free)
   unfolding run settle
-  ends-drops t h = ends-as-finish _ (finish-not a done t ∙ rw (eq-eqb (count table) 129 h))
+  ends-drops t h = ends-as-finish _ (finish-not a worked t ∙ rw (eq-eqb (count table) 129 h))
 
-  pub ends-keeps : isWhole (a .unit) (done .place) ≡ false → (count table ≡ 129 → ⊥)
-      → (fragment a area c .answer ≡ kept) × (fragment a area c .state .places ≡ table)
+  pub ends-keeps : isWhole (a .unit) (worked .place) ≡ false → (count table ≡ 129 → ⊥)
+      → (fragment a area c .answer ≡ done kept) × (fragment a area c .state .places ≡ table)
   unfolding run settle
-  ends-keeps t h = ends-as-finish _ (finish-not a done t ∙ rw (ne-eqb (count table) 129 h))
+  ends-keeps t h = ends-as-finish _ (finish-not a worked t ∙ rw (ne-eqb (count table) 129 h))
 
-  pub ends-dropped-only : (n : ℕ) → fragment a area c .answer ≡ dropped n
-      → (isWhole (a .unit) (done .place) ≡ false) × (count table ≡ 129) × (n ≡ victim (a .reliable) table)
+  pub ends-dropped-only : (n : ℕ) → fragment a area c .answer ≡ done (dropped n)
+      → (isWhole (a .unit) (worked .place) ≡ false) × (count table ≡ 129) × (n ≡ victim (a .reliable) table)
   ends-dropped-only n h =
-      split (isWhole (a .unit) (done .place))
+      split (isWhole (a .unit) (worked .place))
       (λ t. let k = ends-returned t .0 in let z : _≡_ {A = ℕ} 0 1 = cc in absurd (omega arith))
       (λ t.
       ⊎-elim (λ f. let k = ends-drops t f .0 in (t, f, cc))
       (λ f. let k = ends-keeps t f .0 in let z : _≡_ {A = ℕ} 0 1 = cc in absurd (omega arith)) (split-eq (count table) 129))
 
-  pub ends-returned-only : (n i d : ℕ) → fragment a area c .answer ≡ returned n i d
-      → (isWhole (a .unit) (done .place) ≡ true) × (n ≡ c .number) × (i ≡ w .seat) × (d ≡ w .place .size)
+  pub ends-returned-only : (n i d : ℕ) → fragment a area c .answer ≡ done (returned n i d)
+      → (isWhole (a .unit) (worked .place) ≡ true) × (n ≡ c .number) × (i ≡ w .seat) × (d ≡ w .place .size)
   ends-returned-only n i d h =
-      split (isWhole (a .unit) (done .place))
+      split (isWhole (a .unit) (worked .place))
       (λ t. let k = ends-returned t .0 in (t, cc, cc, cc))
       (λ t.
       ⊎-elim (λ f. let k = ends-drops t f .0 in let z : _≡_ {A = ℕ} 0 1 = cc in absurd (omega arith))
       (λ f. let k = ends-keeps t f .0 in let z : _≡_ {A = ℕ} 0 1 = cc in absurd (omega arith)) (split-eq (count table) 129))
 
   -- the place of a returned sample lies in the area
-  pub shown-whole : (n i d : ℕ) → fragment a area c .answer ≡ returned n i d
+  pub shown-whole : (n i d : ℕ) → fragment a area c .answer ≡ done (returned n i d)
       → shown a (fragment a area c .area) i d ≡ take d (drop (i * a .room) (fragment a area c .area))
   unfolding shown
   shown-whole n i d h =
@@ -191,15 +191,11 @@ module _ (a : Assembler) (area : List ℕ) (c : Call) (g : Ok a) (e : refusal a 
 
 -- an accepted call says no refusal
 accepted-not : (a : Assembler) (area : List ℕ) (c : Call) (n : ℕ) → refusal a (length area) c ≡ 0 → fragment a area c .answer ≡ refused n → ⊥
-unfolding accepted finish settle
+unfolding accepted
 accepted-not a area c n z e =
-    let k : finish a (run a c (begin a area c)) .answer ≡ refused n = ap (λ (o : Outcome). o .answer) (sym (fragment-accepted a area c z)) ∙ e in
-    split (isWhole (a .unit) (run a c (begin a area c) .place))
-    (λ t. let y : _≡_ {A = ℕ} 0 1 = (let u = rw t at k in cc) in omega arith)
-    (λ t.
-    split (eqb (count (set (a .places) (run a c (begin a area c) .seat) (run a c (begin a area c) .place))) 129)
-    (λ s. let y : _≡_ {A = ℕ} 0 1 = (let u = rw (t, s) at k in cc) in omega arith)
-    (λ s. let y : _≡_ {A = ℕ} 0 1 = (let u = rw (t, s) at k in cc) in omega arith))
+    let k : done (finish a (run a c (begin a area c)) .answer) ≡ refused n = ap (λ (o : After). o .answer) (sym (fragment-accepted a area c z)) ∙ e in
+    let y : _≡_ {A = ℕ} 0 1 = cc in
+    omega arith
 
 pub refused-exactly : (a : Assembler) (area : List ℕ) (c : Call) (n : ℕ) → 0 < n
     → (fragment a area c .answer ≡ refused n → GivenBy n (rows a (length area) c)) × (GivenBy n (rows a (length area) c) → fragment a area c .answer ≡ refused n)
@@ -208,17 +204,17 @@ refused-exactly a area c n h =
       λ e. x .0 (refusal-of e),
       λ r.
           let q : refusal a (length area) c ≡ n = x .1 r in
-          ap (λ (o : Outcome). o .answer) (fragment-refused a area c (λ z. omega (arith, q, z))) ∙ ap refused q,
+          ap (λ (o : After). o .answer) (fragment-refused a area c (λ z. omega (arith, q, z))) ∙ ap refused q,
     )
   where
     refusal-of : fragment a area c .answer ≡ refused n → refusal a (length area) c ≡ n
     refusal-of e =
         ⊎-elim (λ z. absurd (accepted-not a area c n z e))
-        (λ z. let q = ap (λ (o : Outcome). o .answer) (fragment-refused a area c z) in cc) (split-eq (refusal a (length area) c) 0)
+        (λ z. let q = ap (λ (o : After). o .answer) (fragment-refused a area c z) in cc) (split-eq (refusal a (length area) c) 0)
 
 pub refused-leaves : (a : Assembler) (area : List ℕ) (c : Call) (n : ℕ) → 0 < n → fragment a area c .answer ≡ refused n
     → (fragment a area c .state ≡ a) × (fragment a area c .area ≡ area)
 refused-leaves a area c n h e =
     let q : refusal a (length area) c ≡ n = first-exactly (rows a (length area) c) n h .1 (refused-exactly a area c n h .0 e) in
     let f = fragment-refused a area c (λ z. omega (arith, q, z)) in
-    (ap (λ (o : Outcome). o .state) f, ap (λ (o : Outcome). o .area) f)
+    (ap (λ (o : After). o .state) f, ap (λ (o : After). o .area) f)

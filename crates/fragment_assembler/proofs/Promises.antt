@@ -11,6 +11,7 @@ use lib.IntN.{ℤ, pos}
 use lib.Dec.{leb, eqb}
 use Rattle.sequence_number.specs.Number.{top, numberOf, isNumber}
 use Rattle.sequence_number.specs.Lent.{over}
+use Rattle.sequence_number.specs.Outcome.{refused, done}
 use Rattle.fragment_assembler.proofs.CallLaws.{fragment-ok}
 use Rattle.fragment_assembler.proofs.CleanLaws.{clean-cases, clean-ok, at-sweep, swept-early, swept-late}
 use Rattle.fragment_assembler.proofs.FragmentsLaws.{fragments-cover, fragment-starts, fragments-some, fragments-on-paper}
@@ -21,23 +22,20 @@ use Rattle.fragment_assembler.proofs.RulesLaws.{ok-back, ok-good}
 use Rattle.fragment_assembler.proofs.SetUpLaws.{set-up-exactly, empty-ok, set-up-record}
 use Rattle.fragment_assembler.proofs.StaleLaws.{listed-rising, listed-stale, stale-listed}
 use Rattle.fragment_assembler.proofs.TableLaws.{highest-found, highest-ge, lowest-found, lowest-le, query-found, query-finds}
-use Rattle.fragment_assembler.specs.Call.{fragment, Work, begin, run, runLength, runAt, kept, returned, isWhole, dropped, victim, refused}
+use Rattle.fragment_assembler.specs.Call.{fragment, Work, begin, run, runLength, runAt, kept, returned, isWhole, dropped, victim}
 use Rattle.fragment_assembler.specs.Clean.{clean, staleNumbers, cleaning, sweep}
 use Rattle.fragment_assembler.specs.Fragments.{fragments, fragmentsOnPaper, firstByte, endByte}
-use Rattle.fragment_assembler.specs.Listing.{wrote}
 use Rattle.fragment_assembler.specs.Marks.{marked, covers}
 use Rattle.fragment_assembler.specs.Missing.{missing, missingFor, missed}
 use Rattle.fragment_assembler.specs.Promise.{SetsUp}
 use Rattle.fragment_assembler.specs.Refusal.{Call, refusal, GivenBy, rows}
 use Rattle.fragment_assembler.specs.Rules.{Ok, Good, Distinct}
-use Rattle.fragment_assembler.specs.SetUp.{setUp, setUpRows, setting, empty, startedOf, ready}
+use Rattle.fragment_assembler.specs.SetUp.{setUp, setUpRows, setting, empty, startedOf}
 use Rattle.fragment_assembler.specs.State.{Assembler, free, at, Place, withPlaces}
 use Rattle.fragment_assembler.specs.Table.{has, find, count, inAssembly}
 use Rattle.fragment_assembler.specs.View.{shown}
 use Rattle.fragment_assembler.specs.Words.{stateOf, recordOf}
 use Rattle.fragment_assembler.specs.declared.Start.{Start}
-use Rattle.fragment_assembler.specs.Listing as told
-use Rattle.fragment_assembler.specs.SetUp as started
 
 -- ==== Fragments
 
@@ -107,26 +105,26 @@ module _ (a : Assembler) (area : List ℕ) (c : Call) (g : Ok a) (e : refusal a 
 
   -- "All marked: returned, place freed": it is asked before any drop
   pub whole-returned : isWhole (a .unit) worked ≡ true
-      → (fragment a area c .answer ≡ returned (c .number) (start .seat) (start .place .size)) × (fragment a area c .state .places ≡ set (a .places) (start .seat) free)
+      → (fragment a area c .answer ≡ done (returned (c .number) (start .seat) (start .place .size))) × (fragment a area c .state .places ≡ set (a .places) (start .seat) free)
   whole-returned = ends-returned a area c g e
 
   -- "Otherwise, if 129 are in assembly, the highest number is dropped (reliable) or the lowest (best effort)"
   pub unfinished-dropped : isWhole (a .unit) worked ≡ false → count table ≡ 129
-      → (fragment a area c .answer ≡ dropped (victim (a .reliable) table))
+      → (fragment a area c .answer ≡ done (dropped (victim (a .reliable) table)))
       × (fragment a area c .state .places ≡ set table (find (victim (a .reliable) table) table) free)
   unfinished-dropped = ends-drops a area c g e
 
   -- otherwise it is kept
-  pub unfinished-kept : isWhole (a .unit) worked ≡ false → (count table ≡ 129 → ⊥) → (fragment a area c .answer ≡ kept) × (fragment a area c .state .places ≡ table)
+  pub unfinished-kept : isWhole (a .unit) worked ≡ false → (count table ≡ 129 → ⊥) → (fragment a area c .answer ≡ done kept) × (fragment a area c .state .places ≡ table)
   unfinished-kept = ends-keeps a area c g e
 
   -- a drop is of an unfinished 129th, and of exactly that number
-  pub dropped-only : (n : ℕ) → fragment a area c .answer ≡ dropped n
+  pub dropped-only : (n : ℕ) → fragment a area c .answer ≡ done (dropped n)
       → (isWhole (a .unit) worked ≡ false) × (count table ≡ 129) × (n ≡ victim (a .reliable) table)
   dropped-only = ends-dropped-only a area c g e
 
   -- no answer returns another number, nor an unfinished sample
-  pub returned-only : (n i d : ℕ) → fragment a area c .answer ≡ returned n i d
+  pub returned-only : (n i d : ℕ) → fragment a area c .answer ≡ done (returned n i d)
       → (isWhole (a .unit) worked ≡ true) × (n ≡ c .number) × (i ≡ start .seat) × (d ≡ start .place .size)
   returned-only = ends-returned-only a area c g e
 
@@ -158,20 +156,20 @@ row-4 n = number-row n
 
 -- set-up: 14 or 3 exactly when their rows hold in this order, and the words stay
 pub set-up-refused-exactly : (f : ℕ) (reliable : Bool) (p : ℕ) (w : List ℕ) (n : ℕ) → 0 < n
-    → (setUp f reliable p w .answer ≡ started.refused n → GivenBy n (setUpRows f p (length w)))
-    × (GivenBy n (setUpRows f p (length w)) → setUp f reliable p w ≡ setting (started.refused n) w)
+    → (setUp f reliable p w .answer ≡ refused n → GivenBy n (setUpRows f p (length w)))
+    × (GivenBy n (setUpRows f p (length w)) → setUp f reliable p w ≡ setting (refused n) w)
 set-up-refused-exactly f reliable p w n h = set-up-exactly f reliable p w n h
 
 -- "3: lent output shorter than the answer", and nothing is dropped
 pub clean-refused-exactly : (a : Assembler) (t : ℕ) (out : List ℤ)
-    → (length out < length (staleNumbers t (a .places)) → clean a t out ≡ cleaning (told.refused 3) a out)
+    → (length out < length (staleNumbers t (a .places)) → clean a t out ≡ cleaning (refused 3) a out)
     × (length (staleNumbers t (a .places)) ≤ length out
-    → clean a t out ≡ cleaning (told.wrote (length (staleNumbers t (a .places)))) (withPlaces a (sweep t (a .places))) (over (map pos (staleNumbers t (a .places))) out))
+    → clean a t out ≡ cleaning (done (length (staleNumbers t (a .places)))) (withPlaces a (sweep t (a .places))) (over (map pos (staleNumbers t (a .places))) out))
 clean-refused-exactly a t out = clean-cases a t out
 
 pub missing-refused-exactly : (a : Assembler) (n : ℕ) (out : List ℕ)
-    → (length out < length (missing a n) → missingFor a n out ≡ missed (told.refused 3) out)
-    × (length (missing a n) ≤ length out → missingFor a n out ≡ missed (told.wrote (length (missing a n))) (over (missing a n) out))
+    → (length out < length (missing a n) → missingFor a n out ≡ missed (refused 3) out)
+    × (length (missing a n) ≤ length out → missingFor a n out ≡ missed (done (length (missing a n))) (over (missing a n) out))
 missing-refused-exactly a n out = missing-cases a n out
 
 -- ==== The record's rules
@@ -188,7 +186,7 @@ clean-rules = clean-ok
 
 -- what set-up leaves in a record's own 906 words is a record by the rules
 pub set-up-leaves : (w : List ℕ) (f : ℕ) (reliable : Bool) (p : ℕ) (r : Start) (w′ : List ℕ) → SetsUp w f reliable p r w′ → length w′ ≡ 906
-    → startedOf r ≡ ready → Good w′
+    → startedOf r ≡ done tt → Good w′
 set-up-leaves = set-up-record
 
 -- "at most 128 in assembly after a call", and no number stands at two places
@@ -246,6 +244,6 @@ pub query-exact : (ps : List Place) (n : ℕ) → 0 < n
 query-exact ps n h = (query-found ps n h, query-finds ps n h)
 
 -- the view of a returned sample: its bytes lie in the area, and the view shows them
-pub returned-shown : (a : Assembler) (area : List ℕ) (c : Call) → Ok a → refusal a (length area) c ≡ 0 → (n i d : ℕ) → fragment a area c .answer ≡ returned n i d
+pub returned-shown : (a : Assembler) (area : List ℕ) (c : Call) → Ok a → refusal a (length area) c ≡ 0 → (n i d : ℕ) → fragment a area c .answer ≡ done (returned n i d)
     → shown a (fragment a area c .area) i d ≡ take d (drop (i * a .room) (fragment a area c .area))
 returned-shown a area c g e n i d r = shown-whole a area c g e n i d r

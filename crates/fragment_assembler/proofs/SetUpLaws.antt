@@ -10,13 +10,14 @@ use lib.Seq.{take-all, take-at}
 use lib.Dec.{eqb}
 use borrow.Author.Tests.{lt-ltb, le-ltb, eq-eqb, ne-eqb}
 use Rattle.sequence_number.specs.Lent.{over}
+use Rattle.sequence_number.specs.Outcome.{refused, done}
 use Rattle.sequence_number.proofs.Split.{split}
 use Rattle.fragment_assembler.proofs.RefusalLaws.{first-exactly}
 use Rattle.fragment_assembler.proofs.RulesLaws.{ok-good}
 use Rattle.fragment_assembler.specs.Promise.{SetsUp}
 use Rattle.fragment_assembler.specs.Refusal.{GivenBy}
 use Rattle.fragment_assembler.specs.Rules.{Ok, Good}
-use Rattle.fragment_assembler.specs.SetUp.{empty, setUp, setUpRefusal, setting, refused, ready, setUpRows, startedOf}
+use Rattle.fragment_assembler.specs.SetUp.{empty, setUp, setUpRefusal, setting, setUpRows, startedOf}
 use Rattle.fragment_assembler.specs.State.{at, free, Place}
 use Rattle.fragment_assembler.specs.Table.{count}
 use Rattle.fragment_assembler.specs.Words.{tableOf, bit, recordOf}
@@ -103,7 +104,7 @@ module _ (w : List ℕ) (f : ℕ) (reliable : Bool) (p : ℕ) where
             let whole : ys ++ drop 906 w ≡ over (recordOf (empty f reliable p)) w =
             (ap (λ (x : List ℕ). x ++ drop 906 w) is ∙ ap (λ (j : ℕ). recordOf (empty f reliable p) ++ drop j w) (sym long)) in
             record {
-              same = rw (eq-eqb (setUpRefusal f p (length w)) 0 q) (ap (setting ready) whole);
+              same = rw (eq-eqb (setUpRefusal f p (length w)) 0 q) (ap (setting (done tt)) whole);
               good = λ _.
                   subst Good (sym (ap (take 906) whole ∙ take-at (recordOf (empty f reliable p)) (drop (length (recordOf (empty f reliable p))) w) 906 long))
                   (ok-good (empty f reliable p) k);
@@ -128,5 +129,5 @@ set-up-exactly f reliable p w n h =
 
 -- set up in exactly 906 words: the words are the record
 pub set-up-record : (w : List ℕ) (f : ℕ) (reliable : Bool) (p : ℕ) (r : Start) (w′ : List ℕ) → SetsUp w f reliable p r w′ → length w′ ≡ 906
-    → startedOf r ≡ ready → Good w′
+    → startedOf r ≡ done tt → Good w′
 set-up-record w f reliable p r w′ h l e = subst Good (take-all 906 w′ (omega arith)) (h .good e)

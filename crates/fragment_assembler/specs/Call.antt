@@ -5,6 +5,7 @@ use mathlib.Core.List.{List}
 use lib.ListN.{length, set, replicate}
 use lib.Seq.{paste}
 use lib.Dec.{eqb}
+use Rattle.sequence_number.specs.Outcome.{Outcome, refused, done}
 use Rattle.fragment_assembler.specs.declared.Answer.{Answer}
 use Rattle.fragment_assembler.specs.declared.Answer.the-variants.{Refused, Kept, Returned, Dropped}
 use Rattle.fragment_assembler.specs.State.{Place, Assembler, free, at, withPlaces}
@@ -13,19 +14,18 @@ use Rattle.fragment_assembler.specs.Marks.{marked, markRun, all}
 use Rattle.fragment_assembler.specs.Fragments.{fragments, firstByte, brings}
 use Rattle.fragment_assembler.specs.Refusal.{Call, refusal}
 
--- What an answer says: document 01's refusal number, or what happened to which number; a returned sample with its place and its length
+-- what an accepted call did to which number: "the answer says which happened, with the number, and for a return its place and length"
 pub data Fate : Type 0 where
-  refused : ℕ → Fate
   kept : Fate
   returned : ℕ → ℕ → ℕ → Fate
   dropped : ℕ → Fate
 
--- the number and the values for each case of the answer
-abbrev pub fateOf : Answer → Fate
+-- what an answer says
+abbrev pub fateOf : Answer → Outcome Fate
 fateOf (Refused n) = refused n
-fateOf Kept = kept
-fateOf (Returned n i d) = returned n i d
-fateOf (Dropped n) = dropped n
+fateOf Kept = done kept
+fateOf (Returned n i d) = done (returned n i d)
+fateOf (Dropped n) = done (dropped n)
 
 -- the place that a call works on, where it lies, and the area
 pub record Work : Type 0 where
@@ -103,20 +103,20 @@ finish a w =
     (settle (a .reliable) (set (a .places) (w .seat) (w .place)))
 
 -- what a call says and leaves: the answer, the state and the area
-pub record Outcome : Type 0 where
-  pub answer : Fate
+pub record After : Type 0 where
+  pub answer : Outcome Fate
   pub state : Assembler
   pub area : List ℕ
 
-abbrev pub outcome : Fate → Assembler → List ℕ → Outcome
-outcome r a area = record { answer = r; state = a; area = area }
+abbrev pub afterCall : Outcome Fate → Assembler → List ℕ → After
+afterCall r a area = record { answer = r; state = a; area = area }
 
-unfoldable pub accepted : Assembler → List ℕ → Call → Outcome
+unfoldable pub accepted : Assembler → List ℕ → Call → After
 accepted a area c =
     let w = run a c (begin a area c) in
-    outcome (finish a w .answer) (withPlaces a (finish a w .places)) (w .area)
+    afterCall (done (finish a w .answer)) (withPlaces a (finish a w .places)) (w .area)
 
 -- the whole call: "Every refusal returns its number alone and leaves state, area and output untouched"
-unfoldable pub fragment : Assembler → List ℕ → Call → Outcome
+unfoldable pub fragment : Assembler → List ℕ → Call → After
 fragment a area c =
-    cond (eqb (refusal a (length area) c) 0) (accepted a area c) (outcome (refused (refusal a (length area) c)) a area)
+    cond (eqb (refusal a (length area) c) 0) (accepted a area c) (afterCall (refused (refusal a (length area) c)) a area)

@@ -4,6 +4,7 @@ use mathlib.Core.Path.{_≡_}
 use mathlib.Core.Bool.{Bool, false}
 use mathlib.Core.List.{List, [], _∷_}
 use lib.ListN.{length, getD, take}
+use Rattle.sequence_number.specs.Outcome.{done}
 use Rattle.fragment_assembler.specs.declared.Answer.{Answer}
 use Rattle.fragment_assembler.specs.State.{Place, at}
 use Rattle.fragment_assembler.specs.Table.{find}
@@ -39,7 +40,7 @@ pub record RunOk (d f : ℕ) (c : Call) : Type 0 where
 
 -- the end of a call: the answer said, and the places that it left
 pub record Ends (w : List ℕ) (s : Settled) (r : Answer) (w′ : List ℕ) : Type 0 where
-  pub answer : fateOf r ≡ s .answer
+  pub answer : fateOf r ≡ done (s .answer)
   pub became : Became w (s .places) w′
 
 -- what the end of a call asks of the place that it worked on

@@ -7,7 +7,6 @@ pub mod Call
 pub mod Words
 pub mod Rules
 pub mod SetUp
-pub mod Listing
 pub mod Clean
 pub mod Missing
 pub mod View

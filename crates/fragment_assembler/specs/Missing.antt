@@ -4,19 +4,19 @@ use mathlib.Core.Bool.{cond}
 use mathlib.Core.List.{List, [], _∷_, _++_}
 use lib.ListN.{length}
 use lib.Dec.{ltb}
+use Rattle.sequence_number.specs.Outcome.{Outcome, refused, done}
 use Rattle.sequence_number.specs.Lent.{over}
 use Rattle.fragment_assembler.specs.declared.Listing.{Listing}
 use Rattle.fragment_assembler.specs.declared.Listing.the-variants.{Refused, Listed}
-use Rattle.fragment_assembler.specs.State.{Place, Assembler, at}
+use Rattle.fragment_assembler.specs.State.{Assembler, at}
 use Rattle.fragment_assembler.specs.Table.{find, inAssembly}
 use Rattle.fragment_assembler.specs.Marks.{marked}
 use Rattle.fragment_assembler.specs.Fragments.{fragments}
-use Rattle.fragment_assembler.specs.Listing.{Told, refused, wrote}
 
--- the number and the value for each case of the answer
-abbrev pub toldOf : Listing → Told
-toldOf (Refused n) = refused n
-toldOf (Listed n) = wrote n
+-- what an answer says: how many fragments were written
+abbrev pub listedOf : Listing → Outcome ℕ
+listedOf (Refused n) = refused n
+listedOf (Listed n) = done n
 
 -- the fragments from 1 to n that are not marked, rising
 abbrev pub gaps : List ℕ → ℕ → List ℕ
@@ -32,13 +32,13 @@ missing a n =
 
 -- what the call says and leaves: the answer and the lent list
 pub record Missed : Type 0 where
-  pub answer : Told
+  pub answer : Outcome ℕ
   pub list : List ℕ
 
-abbrev pub missed : Told → List ℕ → Missed
+abbrev pub missed : Outcome ℕ → List ℕ → Missed
 missed r out = record { answer = r; list = out }
 
 -- 3 where the list is shorter than the answer; else the fragments, and past them what was there
 unfoldable pub missingFor : Assembler → ℕ → List ℕ → Missed
 missingFor a n out =
-    cond (ltb (length out) (length (missing a n))) (missed (refused 3) out) (missed (wrote (length (missing a n))) (over (missing a n) out))
+    cond (ltb (length out) (length (missing a n))) (missed (refused 3) out) (missed (done (length (missing a n))) (over (missing a n) out))

@@ -4,6 +4,7 @@ use mathlib.Core.Bool.{Bool, cond, _||_}
 use mathlib.Core.List.{List, [], _∷_}
 use lib.ListN.{length, replicate}
 use lib.Dec.{ltb, eqb}
+use Rattle.sequence_number.specs.Outcome.{Outcome, refused, done}
 use Rattle.sequence_number.specs.Lent.{over}
 use Rattle.fragment_assembler.specs.declared.Start.{Start}
 use Rattle.fragment_assembler.specs.declared.Start.the-variants.{Refused, Ready}
@@ -11,15 +12,10 @@ use Rattle.fragment_assembler.specs.State.{Assembler, free}
 use Rattle.fragment_assembler.specs.Refusal.{Row, row, first}
 use Rattle.fragment_assembler.specs.Words.{recordOf}
 
--- what set-up says: document 01's refusal number, or that the record is ready
-pub data Started : Type 0 where
-  refused : ℕ → Started
-  ready : Started
-
--- the number for each case of the answer
-abbrev pub startedOf : Start → Started
+-- what an answer says: an accepted set-up finds nothing, the record is ready
+abbrev pub startedOf : Start → Outcome (Unit {0})
 startedOf (Refused n) = refused n
-startedOf Ready = ready
+startedOf Ready = done tt
 
 -- 14: "f is 0, or p is 0 or above 65,536"; then 3: fewer words than the record has
 abbrev pub setUpRows : ℕ → ℕ → ℕ → List Row
@@ -34,13 +30,13 @@ empty f reliable p = record { unit = f; room = p; reliable = reliable; places = 
 
 -- what set-up says and leaves: the answer and the words
 pub record Setting : Type 0 where
-  pub answer : Started
+  pub answer : Outcome (Unit {0})
   pub words : List ℕ
 
-abbrev pub setting : Started → List ℕ → Setting
+abbrev pub setting : Outcome (Unit {0}) → List ℕ → Setting
 setting r w = record { answer = r; words = w }
 
 -- the fresh record, and past it what was there; all that was there where it is refused
 unfoldable pub setUp : ℕ → Bool → ℕ → List ℕ → Setting
 setUp f reliable p w =
-    cond (eqb (setUpRefusal f p (length w)) 0) (setting ready (over (recordOf (empty f reliable p)) w)) (setting (refused (setUpRefusal f p (length w))) w)
+    cond (eqb (setUpRefusal f p (length w)) 0) (setting (done tt) (over (recordOf (empty f reliable p)) w)) (setting (refused (setUpRefusal f p (length w))) w)

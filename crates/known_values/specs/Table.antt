@@ -5,14 +5,14 @@ use mathlib.Core.Bool.{Bool}
 use mathlib.Core.List.{List, [], _∷_, map}
 use lib.ListN.{length}
 use lib.IntN.{ℤ, pos}
-use Rattle.sequence_number.specs.Outcome.{Outcome, done}
+use Rattle.sequence_number.specs.Outcome.{Outcome, refused, done}
 use Rattle.sequence_number.specs.Kind.{sequence, sequenceBytes}
 use Rattle.sequence_number.specs.NumberSet.{NumberSet, emptyAt}
 use Rattle.sequence_number.specs.Make.{makeSet}
 use Rattle.sequence_number.specs.declared.ByteOrder.the-variants.{Little}
 use Rattle.fragment_assembler.specs.Fragments.{fragments}
 use Rattle.fragment_assembler.specs.Refusal.{Call, callOf, refusal}
-use Rattle.fragment_assembler.specs.Call.{fragment, refused}
+use Rattle.fragment_assembler.specs.Call.{fragment}
 use Rattle.fragment_assembler.specs.SetUp.{empty}
 use Rattle.proxy_record.specs.Entries.{Entry}
 use Rattle.proxy_record.specs.State.{State, begun}

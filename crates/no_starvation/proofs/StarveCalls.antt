@@ -1,25 +1,23 @@
 -- Demand 3 of the public calls: a chain of them, by nothing but their promises, is a chain of the statement. Assumes nothing.
 use Prim.Native.Nat.{ℕ, _+_, _*_}
 use native.Mathlib.Omega.{arith}
-use mathlib.Core.Path.{_≡_, refl, sym, ap, subst, _∙_}
+use mathlib.Core.Path.{_≡_, sym, ap, subst, _∙_}
 use mathlib.Core.Bool.{Bool, true, false, cond}
 use mathlib.Core.Logic.{inl, inr, ⊎-elim}
 use mathlib.Core.List.{List, [], _∷_}
-use lib.ListN.{length, set, take, drop}
+use lib.ListN.{length, take, drop}
 use lib.IntN.{ℤ}
 use lib.Dec.{leb}
-use Rattle.sequence_number.proofs.Split.{split, split-eq}
+use Rattle.sequence_number.proofs.Split.{split-eq}
 use Rattle.fragment_assembler.proofs.CallLaws.{fragment-refused, fragment-accepted}
-use Rattle.fragment_assembler.proofs.PlacingLaws.{ends-returned, ends-drops, ends-keeps}
 use Rattle.no_starvation.proofs.StarveLaws.{not-starved}
-use Rattle.fragment_assembler.specs.Call.{Outcome, fateOf, accepted, fragment, Fate, isWhole, run, begin}
+use Rattle.fragment_assembler.specs.Call.{After, fateOf, accepted, fragment}
 use Rattle.fragment_assembler.specs.Clean.{Cleaning}
 use Rattle.fragment_assembler.specs.Promise.{Does, Cleans}
 use Rattle.fragment_assembler.specs.Refusal.{Call, refusal}
-use Rattle.fragment_assembler.specs.Rules.{Ok, Good}
+use Rattle.fragment_assembler.specs.Rules.{Good}
 use Rattle.no_starvation.specs.Starve.{after, moment, arrives, said, cleans, isRefused, Run, Calls, Chain, Moment, runOf, returns, Bounded, Cut, Answered}
 use Rattle.fragment_assembler.specs.State.{Assembler}
-use Rattle.fragment_assembler.specs.Table.{count}
 use Rattle.fragment_assembler.specs.View.{shown}
 use Rattle.fragment_assembler.specs.Words.{stateOf}
 use Rattle.fragment_assembler.specs.declared.Answer.{Answer}
@@ -30,11 +28,11 @@ use Rattle.no_starvation.specs.Starve as starve
 
 does-after : (w area : List ℕ) (c : Call) (r : Answer) (w′ area′ : List ℕ) → Does w area c r w′ area′
     → after (moment (stateOf w) area) (arrives c) ≡ moment (stateOf w′) area′
-does-after w area c r w′ area′ h = ap (λ (o : Outcome). moment (o .state) (o .area)) (sym (h .same))
+does-after w area c r w′ area′ h = ap (λ (o : After). moment (o .state) (o .area)) (sym (h .same))
 
 does-said : (w area : List ℕ) (c : Call) (r : Answer) (w′ area′ : List ℕ) → Does w area c r w′ area′
     → said (moment (stateOf w) area) (arrives c) ≡ fateOf r
-does-said w area c r w′ area′ h = ap (λ (o : Outcome). o .answer) (sym (h .same))
+does-said w area c r w′ area′ h = ap (λ (o : After). o .answer) (sym (h .same))
 
 cleans-after : (w area : List ℕ) (cutoff : ℕ) (out : List ℤ) (r : Cleaned) (w′ : List ℕ) (out′ : List ℤ) → Cleans w cutoff out r w′ out′
     → after (moment (stateOf w) area) (cleans cutoff out) ≡ moment (stateOf w′) area
@@ -45,23 +43,17 @@ accepted-shows : (a : Assembler) (area : List ℕ) (c : Call) → isRefused (fra
 accepted-shows a area c e =
     ⊎-elim (λ z. z)
     (λ z.
-    let k : _≡_ {A = Bool} true false = ap (λ (o : Outcome). isRefused (o .answer)) (sym (fragment-refused a area c z)) ∙ e in
+    let k : _≡_ {A = Bool} true false = ap (λ (o : After). isRefused (o .answer)) (sym (fragment-refused a area c z)) ∙ e in
     let y : _≡_ {A = ℕ} 0 1 = cc in
     absurd (omega arith))
     (split-eq (refusal a (length area) c) 0)
 
-refused-shows : (a : Assembler) (area : List ℕ) (c : Call) → Ok a → isRefused (fragment a area c .answer) ≡ true → refusal a (length area) c ≡ 0 → ⊥
-refused-shows a area c g e z =
-    let no : (f : Fate) → fragment a area c .answer ≡ f → isRefused f ≡ false → ⊥ =
-    (λ f q h.
-    let k : _≡_ {A = Bool} true false = sym e ∙ ap isRefused q ∙ h in
+refused-shows : (a : Assembler) (area : List ℕ) (c : Call) → isRefused (fragment a area c .answer) ≡ true → refusal a (length area) c ≡ 0 → ⊥
+unfolding accepted
+refused-shows a area c e z =
+    let k : _≡_ {A = Bool} false true = ap (λ (o : After). isRefused (o .answer)) (sym (fragment-accepted a area c z)) ∙ e in
     let y : _≡_ {A = ℕ} 0 1 = cc in
-    omega arith) in
-    split (isWhole (a .unit) (run a c (begin a area c) .place))
-    (λ t. no _ (ends-returned a area c g z t .0) refl)
-    (λ t.
-    ⊎-elim (λ f. no _ (ends-drops a area c g z t f .0) refl) (λ f. no _ (ends-keeps a area c g z t f .0) refl)
-    (split-eq (count (set (a .places) (begin a area c .seat) (run a c (begin a area c) .place))) 129))
+    omega arith
 
 -- the words keep their rules along the calls
 calls-good : {N : ℕ} {B w area : List ℕ} {rs : List Run} {time : ℕ} → Calls N B w area rs time → Good w
@@ -83,7 +75,7 @@ chain-of {N = N} {B = B} (starve.Calls.other {w = w} {area = area} {rs = rs} {ti
     let s = does-said w area c r w′ area′ d in
     subst (λ (m : Moment). Chain N B m rs time) e
     (starve.Chain.other (chain-of h) (arrives c)
-    (⊎-elim (λ n. inl n) (λ n. inr (refused-shows (stateOf w) area c (calls-good h .ok) (ap isRefused s ∙ n))) o) (subst (Bounded N) (sym e) low))
+    (⊎-elim (λ n. inl n) (λ n. inr (refused-shows (stateOf w) area c (ap isRefused s ∙ n))) o) (subst (Bounded N) (sym e) low))
 chain-of {N = N} {B = B} (starve.Calls.cleaned {w = w} {area = area} {rs = rs} {time = time} h cutoff out r w′ out′ d le low) =
     let e = cleans-after w area cutoff out r w′ out′ d in
     subst (λ (m : Moment). Chain N B m rs time) e (starve.Chain.other (chain-of h) (cleans cutoff out) le (subst (Bounded N) (sym e) low))
@@ -92,8 +84,8 @@ chain-of {N = N} {B = B} (starve.Calls.cleaned {w = w} {area = area} {rs = rs} {
 same-room : (a : Assembler) (area : List ℕ) (c : Call) → fragment a area c .state .room ≡ a .room
 unfolding accepted
 same-room a area c =
-    ⊎-elim (λ z. ap (λ (o : Outcome). o .state .room) (fragment-accepted a area c z))
-    (λ z. ap (λ (o : Outcome). o .state .room) (fragment-refused a area c z)) (split-eq (refusal a (length area) c) 0)
+    ⊎-elim (λ z. ap (λ (o : After). o .state .room) (fragment-accepted a area c z))
+    (λ z. ap (λ (o : After). o .state .room) (fragment-refused a area c z)) (split-eq (refusal a (length area) c) 0)
 
 shown-room : (a b : Assembler) (area : List ℕ) (i n : ℕ) → a .room ≡ b .room → shown a area i n ≡ shown b area i n
 unfolding shown

@@ -8,6 +8,7 @@ use mathlib.Core.Logic.{inl, inr}
 use mathlib.Core.List.{List, [], _∷_}
 use lib.ListN.{replicate}
 use lib.IntN.{pos}
+use Rattle.sequence_number.specs.Outcome.{done}
 use Rattle.fragment_assembler.proofs.SetUpLaws.{empty-ok}
 use Rattle.fragment_assembler.specs.Call.{fragment, begin, run, accepted, finish, settle, returned}
 use Rattle.fragment_assembler.specs.Clean.{clean, staleNumbers}
@@ -74,6 +75,6 @@ example =
     looks tt (omega arith)
 
 -- and its last fragment returns it, with the sender's bytes
-pub example-returned : (said (after m₄ looks) (arrives two) ≡ returned 5 0 3) × (shown (m₄ .state) (after (after m₄ looks) (arrives two) .area) 0 3 ≡ block)
+pub example-returned : (said (after m₄ looks) (arrives two) ≡ done (returned 5 0 3)) × (shown (m₄ .state) (after (after m₄ looks) (arrives two) .area) 0 3 ≡ block)
 unfolding fragment accepted begin run finish settle rows has fragments marked mark clean staleNumbers shown
 example-returned = (refl, refl)

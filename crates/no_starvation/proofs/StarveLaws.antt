@@ -12,6 +12,7 @@ use lib.Seq.{paste, getD-take, getD-drop, getD-set-same, getD-set-other, ext-get
 use lib.IntN.{ℤ}
 use lib.Dec.{eqb}
 use borrow.Author.Tests.{ltb-true, ltb-false, leb-true, leb-false, lt-ltb, le-ltb, eq-eqb, ne-eqb}
+use Rattle.sequence_number.specs.Outcome.{done}
 use Rattle.sequence_number.proofs.Split.{split, split-lt, split-eq}
 use Rattle.fragment_assembler.proofs.AreaLaws.{paste-in, paste-left, paste-right}
 use Rattle.fragment_assembler.proofs.CallLaws.{settle-kept, settle-dropped, finish-whole, finish-not, begun, ran-other, begin-fresh, begin-known, Begun, run-long, ran-long, inside, fragment-accepted, accepted-ok, fragment-refused}
@@ -23,7 +24,7 @@ use Rattle.fragment_assembler.proofs.PlacingLaws.{ends-returned, shown-whole, e
 use Rattle.fragment_assembler.proofs.RefusalLaws.{Passed, passed}
 use Rattle.fragment_assembler.proofs.RulesLaws.{rests-size}
 use Rattle.fragment_assembler.proofs.TableLaws.{at-set, lower-but, find-hit, highest-found, find-miss, highest-ge, each-set, find-is, find-none, query-finds, inside-at}
-use Rattle.fragment_assembler.specs.Call.{fragment, settle, Settled, victim, finish, Work, isWhole, accepted, run, begin, known, fresh, runLength, runAt, returned, Outcome}
+use Rattle.fragment_assembler.specs.Call.{fragment, settle, Settled, victim, finish, Work, isWhole, accepted, run, begin, known, fresh, runLength, runAt, returned, After}
 use Rattle.fragment_assembler.specs.Clean.{clean, sweep, Cleaning, staleNumbers}
 use Rattle.fragment_assembler.specs.Fragments.{fragments}
 use Rattle.fragment_assembler.specs.Marks.{marked, all, covers}
@@ -319,7 +320,7 @@ module _ (N : ℕ) (B : List ℕ) (a : Assembler) (area : List ℕ) (rs : List R
 
 -- ---- the end of a call of the number itself
 
-settle-silent : (r : Bool) (n : ℕ) (ps : List Place) → returns n (settle r ps .answer) ≡ false
+settle-silent : (r : Bool) (n : ℕ) (ps : List Place) → returns n (done (settle r ps .answer)) ≡ false
 unfolding settle
 settle-silent r n ps = split (eqb (count ps) 129) (λ e. rw e) (λ e. rw e)
 
@@ -337,23 +338,23 @@ module _ (N : ℕ) (B : List ℕ) (a : Assembler) (area : List ℕ) (rs : List R
   same-all : isWhole (a .unit) (run a c (begin a area c) .place) ≡ isBrought (a .unit) B (runOf c ∷ rs)
   same-all = ran-all N B a area rs c (v .ok) q cut (begin a area c) b y
 
-  whole-answer : isBrought (a .unit) B (runOf c ∷ rs) ≡ true → fragment a area c .answer ≡ returned N (begin a area c .seat) (length B)
+  whole-answer : isBrought (a .unit) B (runOf c ∷ rs) ≡ true → fragment a area c .answer ≡ done (returned N (begin a area c .seat) (length B))
   whole-answer e =
       ends-returned a area c (v .ok) ok (same-all ∙ e) .0
-      ∙ ap (λ (n : ℕ). returned n (begin a area c .seat) (begin a area c .place .size)) cn
-      ∙ ap (λ (n : ℕ). returned N (begin a area c .seat) n) (y .size)
+      ∙ ap (λ (n : ℕ). done (returned n (begin a area c .seat) (begin a area c .place .size))) cn
+      ∙ ap (λ (n : ℕ). done (returned N (begin a area c .seat) n)) (y .size)
 
   not-answer : isBrought (a .unit) B (runOf c ∷ rs) ≡ false → returns N (fragment a area c .answer) ≡ false
   unfolding accepted
   not-answer e =
-      ap (λ (o : Outcome). returns N (o .answer)) (fragment-accepted a area c ok)
-      ∙ ap (λ (x : Settled). returns N (x .answer)) (finish-not a (run a c (begin a area c)) (same-all ∙ e))
+      ap (λ (o : After). returns N (o .answer)) (fragment-accepted a area c ok)
+      ∙ ap (λ (x : Settled). returns N (done (x .answer))) (finish-not a (run a c (begin a area c)) (same-all ∙ e))
       ∙ settle-silent (a .reliable) N (set (a .places) (run a c (begin a area c) .seat) (run a c (begin a area c) .place))
 
   whole-bytes : isBrought (a .unit) B (runOf c ∷ rs) ≡ true → take (length B) (drop (begin a area c .seat * a .room) (fragment a area c .area)) ≡ B
   unfolding accepted
   whole-bytes e =
-      ap (λ (o : Outcome). take (length B) (drop (begin a area c .seat * a .room) (o .area))) (fragment-accepted a area c ok)
+      ap (λ (o : After). take (length B) (drop (begin a area c .seat * a .room) (o .area))) (fragment-accepted a area c ok)
       ∙ ran-whole N B a area rs c (v .ok) q cut (begin a area c) b y e
 
   delivers : Delivered N B (moment a area) rs c
@@ -423,7 +424,7 @@ clean-seated N B cutoff a area rs t i some le s =
 
 -- ---- the chain keeps the invariant
 
-abbrev InvO : ℕ → List ℕ → Outcome → List Run → ℕ → Type 0
+abbrev InvO : ℕ → List ℕ → After → List Run → ℕ → Type 0
 InvO N B o rs t = Inv N B (o .state) (o .area) rs t
 
 inv-own : (N : ℕ) (B : List ℕ) (a : Assembler) (area : List ℕ) (rs : List Run) (t : ℕ) (c : Call) → Inv N B a area rs t → c .number ≡ N
@@ -433,16 +434,16 @@ unfolding accepted
 inv-own N B a area rs t c v cn ok cut silent low =
     let eq = fragment-accepted a area c ok in
     let e = sym (delivers N B a area rs t c v cn ok cut .exactly) ∙ silent in
-    subst (λ (o : Outcome). InvO N B o (runOf c ∷ rs) (c .time)) (sym eq)
+    subst (λ (o : After). InvO N B o (runOf c ∷ rs) (c .time)) (sym eq)
     (record {
       ok = accepted-ok a area c (v .ok) (passed a (length area) c ok);
       reliable = v .reliable;
-      state = inr (begin a area c .seat, own-seated N B a area rs t c v cn ok cut e (subst (λ (o : Outcome). lower N (o .state .places) < 128) eq low));
+      state = inr (begin a area c .seat, own-seated N B a area rs t c v cn ok cut e (subst (λ (o : After). lower N (o .state .places) < 128) eq low));
     })
 
 inv-refused : (N : ℕ) (B : List ℕ) (a : Assembler) (area : List ℕ) (rs : List Run) (t : ℕ) (c : Call) → Inv N B a area rs t
     → (refusal a (length area) c ≡ 0 → ⊥) → InvO N B (fragment a area c) rs t
-inv-refused N B a area rs t c v nz = subst (λ (o : Outcome). InvO N B o rs t) (sym (fragment-refused a area c nz)) v
+inv-refused N B a area rs t c v nz = subst (λ (o : After). InvO N B o rs t) (sym (fragment-refused a area c nz)) v
 
 inv-other : (N : ℕ) (B : List ℕ) (a : Assembler) (area : List ℕ) (rs : List Run) (t : ℕ) (c : Call) → 0 < N → Inv N B a area rs t → (c .number ≡ N → ⊥)
     → lower N (fragment a area c .state .places) < 128 → InvO N B (fragment a area c) rs t
@@ -452,7 +453,7 @@ inv-other N B a area rs t c some v nn low =
     (λ ok.
     let eq = fragment-accepted a area c ok in
     let p = passed a (length area) c ok in
-    subst (λ (o : Outcome). InvO N B o rs t) (sym eq)
+    subst (λ (o : After). InvO N B o rs t) (sym eq)
     (record {
       ok = accepted-ok a area c (v .ok) p;
       reliable = v .reliable;
@@ -462,7 +463,7 @@ inv-other N B a area rs t c some v nn low =
           inr (
             x .0,
             other-seated N B a area rs t (x .0) c some (v .ok) (v .reliable) p nn (x .1)
-                (subst (λ (o : Outcome). lower N (o .state .places) < 128) eq low),
+                (subst (λ (o : After). lower N (o .state .places) < 128) eq low),
           ))
           (v .state);
     }))
@@ -527,7 +528,7 @@ others-silent N time m (arrives c) g o =
     ⊎-elim (λ f. ap (returns N) (ends-drops (m .state) (m .area) c g ok t f .0)) (λ f. ap (returns N) (ends-keeps (m .state) (m .area) c g ok t f .0))
     (split-eq (count (set (m .state .places) (begin (m .state) (m .area) c .seat) (run (m .state) c (begin (m .state) (m .area) c) .place))) 129)))
     (λ nz. absurd (nz ok)) o)
-    (λ nz. ap (λ (x : Outcome). returns N (x .answer)) (fragment-refused (m .state) (m .area) c nz))
+    (λ nz. ap (λ (x : After). returns N (x .answer)) (fragment-refused (m .state) (m .area) c nz))
     (split-eq (refusal (m .state) (length (m .area)) c) 0)
 others-silent N time m (cleans cutoff out) g o = refl
 others-silent N time m looks g o = refl

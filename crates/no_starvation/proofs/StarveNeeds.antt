@@ -6,6 +6,7 @@ use mathlib.Core.Bool.{Bool, true, false}
 use mathlib.Core.List.{List, [], _∷_, _++_}
 use lib.ListN.{replicate}
 use lib.IntN.{pos}
+use Rattle.sequence_number.specs.Outcome.{done}
 use Rattle.fragment_assembler.specs.Call.{begin, fragment, dropped, accepted, run, finish, settle, kept}
 use Rattle.fragment_assembler.specs.Clean.{clean, staleNumbers}
 use Rattle.fragment_assembler.specs.Fragments.{fragments}
@@ -40,18 +41,18 @@ abbrev crowd : Bool → ℕ → Moment
 crowd reliable n = moment (withPlaces (empty 2 reliable 4) (taken n 128 ++ (free ∷ []))) (replicate 516 9)
 
 -- "In reliable mode": in best effort block 200 goes as the lowest, though no lower number is in assembly
-pub reliable-needed : (said (crowd false 201) (arrives one) ≡ dropped 200) × (lower 200 (after (crowd false 201) (arrives one) .state .places) ≡ 0)
+pub reliable-needed : (said (crowd false 201) (arrives one) ≡ done (dropped 200)) × (lower 200 (after (crowd false 201) (arrives one) .state .places) ≡ 0)
 unfolding fragment accepted begin run finish settle rows has fragments marked mark
 reliable-needed = (refl, refl)
 
 -- "128 lower numbers are never in assembly at once": with 128 of them block 200 goes as the highest
-pub bound-needed : (said (crowd true 1) (arrives one) ≡ dropped 200) × (lower 200 (after (crowd true 1) (arrives one) .state .places) ≡ 128)
+pub bound-needed : (said (crowd true 1) (arrives one) ≡ done (dropped 200)) × (lower 200 (after (crowd true 1) (arrives one) .state .places) ≡ 128)
 unfolding fragment accepted begin run finish settle rows has fragments marked mark
 bound-needed = (refl, refl)
 
 -- "no cleaning cutoff lies after the time its most recently accepted fragment stored": at 11 the block of time 10 is cleaned, and its last fragment opens
 -- it anew
-pub cutoff-needed : said (after (after begins (arrives one)) (cleans 11 (replicate 1 (pos 0)))) (arrives two) ≡ kept
+pub cutoff-needed : said (after (after begins (arrives one)) (cleans 11 (replicate 1 (pos 0)))) (arrives two) ≡ done kept
 unfolding fragment accepted begin run finish settle rows has fragments marked mark clean staleNumbers
 cutoff-needed = refl
 

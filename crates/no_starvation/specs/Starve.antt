@@ -8,6 +8,7 @@ use mathlib.Core.List.{List, [], _∷_}
 use lib.ListN.{length, take, drop}
 use lib.IntN.{ℤ}
 use lib.Dec.{T, eqb}
+use Rattle.sequence_number.specs.Outcome.{Outcome, refused, done}
 use Rattle.fragment_assembler.specs.declared.Answer.{Answer}
 use Rattle.fragment_assembler.specs.declared.Cleaned.{Cleaned}
 use Rattle.fragment_assembler.specs.State.{Assembler}
@@ -15,7 +16,7 @@ use Rattle.fragment_assembler.specs.Table.{inAssembly, lower}
 use Rattle.fragment_assembler.specs.Marks.{covers, all}
 use Rattle.fragment_assembler.specs.Fragments.{fragments, firstByte}
 use Rattle.fragment_assembler.specs.Refusal.{Call, refusal}
-use Rattle.fragment_assembler.specs.Call.{Fate, refused, kept, returned, dropped, fateOf, fragment}
+use Rattle.fragment_assembler.specs.Call.{Fate, kept, returned, dropped, fateOf, fragment}
 use Rattle.fragment_assembler.specs.Clean.{clean}
 use Rattle.fragment_assembler.specs.View.{shown}
 use Rattle.fragment_assembler.specs.Words.{stateOf}
@@ -45,17 +46,17 @@ after m (cleans cutoff out) = moment (clean (m .state) cutoff out .state) (m .ar
 after m looks = m
 
 -- the answer: only a fragment call says what happened to a number here
-abbrev pub said : Moment → Event → Fate
+abbrev pub said : Moment → Event → Outcome Fate
 said m (arrives c) = fragment (m .state) (m .area) c .answer
-said m (cleans cutoff out) = kept
-said m looks = kept
+said m (cleans cutoff out) = done kept
+said m looks = done kept
 
 -- whether an answer returns the number n
-abbrev pub returns : ℕ → Fate → Bool
+abbrev pub returns : ℕ → Outcome Fate → Bool
 returns n (refused k) = false
-returns n kept = false
-returns n (returned m i d) = eqb m n
-returns n (dropped m) = false
+returns n (done kept) = false
+returns n (done (returned m i d)) = eqb m n
+returns n (done (dropped m)) = false
 
 -- whether a fragment call is accepted
 abbrev pub Accepted : Moment → Call → Type 0
@@ -123,16 +124,14 @@ pub record Delivered (N : ℕ) (B : List ℕ) (m : Moment) (rs : List Run) (c : 
   pub exactly : returns N (said m (arrives c)) ≡ isBrought (m .state .unit) B (runOf c ∷ rs)
   -- "and its bytes are the sender's": what the view shows of the place and the length that the answer names is the block
   pub bytes : isBrought (m .state .unit) B (runOf c ∷ rs) ≡ true
-      → (i : ℕ) × (said m (arrives c) ≡ returned N i (length B)) × (shown (m .state) (after m (arrives c) .area) i (length B) ≡ B)
+      → (i : ℕ) × (said m (arrives c) ≡ done (returned N i (length B))) × (shown (m .state) (after m (arrives c) .area) i (length B) ≡ B)
 
 -- ---- the same of the public calls
 
 -- whether an answer is a refusal
-abbrev pub isRefused : Fate → Bool
+abbrev pub isRefused : Outcome Fate → Bool
 isRefused (refused n) = true
-isRefused kept = false
-isRefused (returned n i d) = false
-isRefused (dropped n) = false
+isRefused (done f) = false
 
 -- `Chain` in the words and the area that the calls take and leave, by nothing but their promises. A call that only looks takes both as they are.
 pub data Calls (N : ℕ) (B : List ℕ) : List ℕ → List ℕ → List Run → ℕ → Type 0 where
@@ -149,4 +148,4 @@ pub data Calls (N : ℕ) (B : List ℕ) : List ℕ → List ℕ → List Run →
 pub record Answered (N : ℕ) (B : List ℕ) (w : List ℕ) (rs : List Run) (c : Call) (r : Answer) (w′ area′ : List ℕ) : Type 0 where
   pub exactly : returns N (fateOf r) ≡ isBrought (stateOf w .unit) B (runOf c ∷ rs)
   pub bytes : isBrought (stateOf w .unit) B (runOf c ∷ rs) ≡ true
-      → (i : ℕ) × (fateOf r ≡ returned N i (length B)) × (shown (stateOf w′) area′ i (length B) ≡ B)
+      → (i : ℕ) × (fateOf r ≡ done (returned N i (length B))) × (shown (stateOf w′) area′ i (length B) ≡ B)

@@ -19,8 +19,8 @@ use Rattle.sequence_number.proofs.NumberLaws.{number-is}
 use Rattle.proxy_record.specs.Entries.{Entry, blank, Rising, below, from, putIn, runLen}
 use Rattle.proxy_record.specs.State.{State, Ok, begun, changed}
 use Rattle.proxy_record.proofs.EntriesLaws.{below-none, from-all, from-drop, rising-from, rising-put, length-put, from-put, run-bound, from-run}
-use Rattle.proxy_core.specs.declared.Report.the-variants.{Done, Refused}
-use Rattle.proxy_core.specs.Calls.{noted, put, rebased, moveOn, discard, settled, cap, lowestGone, trim, capped, ended, got, lost, receivedAt, received, irrelevantAt, irrelevant, without, skipped, putEach, rangeAt, irrelevantRange}
+use Rattle.sequence_number.specs.Outcome.{done, refused}
+use Rattle.proxy_core.specs.Calls.{noted, put, rebased, moveOn, discard, settled, cap, lowestGone, trim, capped, unforced, ended, got, lost, receivedAt, received, irrelevantAt, irrelevant, without, skipped, putEach, rangeAt, irrelevantRange}
 use Rattle.proxy_core.proofs.NatLaws.{nat-top}
 use Rattle.sequence_number.proofs.KindLaws.{rank-above}
 
@@ -137,7 +137,7 @@ ok-settled e s o h =
 
 -- The cap
 
-pub ended-few : (s : State) → length (s .tracked) ≤ cap → ended s ≡ record { state = s; report = Done }
+pub ended-few : (s : State) → length (s .tracked) ≤ cap → ended s ≡ record { state = s; report = done unforced }
 unfolding ended capped
 ended-few s h =
     let n : length (s .tracked) - cap ≡ 0 = omega arith in
@@ -172,7 +172,7 @@ ok-received n t s o =
 
 -- One irrelevant
 
-pub irrelevant-old : (n : ℕ) (s : State) → Ok cap s → n < s .base → irrelevantAt n s ≡ record { state = s; report = Done }
+pub irrelevant-old : (n : ℕ) (s : State) → Ok cap s → n < s .base → irrelevantAt n s ≡ record { state = s; report = done unforced }
 unfolding irrelevantAt
 irrelevant-old n s o h =
     let z : n ≡ s .base → ⊥ = λ e. omega arith in
@@ -239,7 +239,7 @@ skipped-same a b s o h =
 
 -- A range
 
-pub range-at-low : (a b : ℕ) (s : State) → Ok cap s → a ≤ s .base → b ≤ top → rangeAt a b s ≡ record { state = skipped a b s; report = Done }
+pub range-at-low : (a b : ℕ) (s : State) → Ok cap s → a ≤ s .base → b ≤ top → rangeAt a b s ≡ record { state = skipped a b s; report = done unforced }
 unfolding rangeAt
 range-at-low a b s o h j = rw (le-leb a (s .base) h, ended-few (skipped a b s) (ok-skipped a b s o h j .few))
 
@@ -336,7 +336,7 @@ base-range a b s =
 
 -- A call that goes on to the cap is not refused
 
-pub ended-accepted : (s : State) (k : ℕ) → ended s .report ≡ Refused k → ⊥
+pub ended-accepted : (s : State) (k : ℕ) → ended s .report ≡ refused k → ⊥
 unfolding ended
 ended-accepted s k =
     split (ltb cap (length (s .tracked)))

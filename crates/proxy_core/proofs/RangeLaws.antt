@@ -13,8 +13,8 @@ use Rattle.sequence_number.proofs.Split.{split-lt}
 use Rattle.proxy_record.specs.Entries.{Entry, blank, Rising, below, from, rank, putIn}
 use Rattle.proxy_record.specs.State.{State, changed}
 use Rattle.proxy_record.proofs.EntriesLaws.{rising-weaken, below-none, from-skip, below-take, from-drop, rank-within, rising-from, rising-put}
-use Rattle.proxy_core.specs.declared.Report.the-variants.{Forced}
-use Rattle.proxy_core.specs.Calls.{put, cap, trim, capped, ended, lost, putEach}
+use Rattle.sequence_number.specs.Outcome.{done}
+use Rattle.proxy_core.specs.Calls.{put, cap, trim, capped, forced, ended, lost, putEach}
 
 -- the k numbers from a on, not available
 unfoldable pub gone : ℕ → ℕ → List Entry
@@ -216,7 +216,7 @@ pub ended-many : (s : State) (k : ℕ) → Rising (s .base) top (s .tracked) →
     → ended s
     ≡ record {
       state = record { base = suc (getD (s .tracked) k blank .number); tracked = drop (suc k) (s .tracked); last = s .last; time = s .time };
-      report = Forced (s .base) (suc (getD (s .tracked) k blank .number));
+      report = done (forced (s .base) (suc (getD (s .tracked) k blank .number)));
     }
 unfolding ended capped
 ended-many s k r e =

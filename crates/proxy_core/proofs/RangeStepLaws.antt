@@ -13,6 +13,7 @@ use lib.Signed.{ltZ}
 use mir.Syntax.{w64}
 use mir.Val.{SFits}
 use Rattle.sequence_number.specs.Number.{top, natOf}
+use Rattle.sequence_number.specs.Outcome.{done}
 use Rattle.proxy_record.specs.Entries.{Entry, blank, Rising, from, rank}
 use Rattle.proxy_record.specs.State.{State, Ok, changed}
 use Rattle.proxy_record.specs.Column.{Placed}
@@ -23,7 +24,7 @@ use Rattle.proxy_record.proofs.RecordLaws.{kept-of, of-laid, state-of}
 use Rattle.proxy_record.proofs.RowLaws.{number-word, place-row}
 use Rattle.proxy_core.specs.declared.Report.{Report}
 use Rattle.proxy_core.specs.declared.Report.the-variants.{Done, Forced, Refused}
-use Rattle.proxy_core.specs.Calls.{put, rebased, moveOn, discard, cap, ended, lost, skipped, putEach, rangeAt, irrelevantRange, Answered}
+use Rattle.proxy_core.specs.Calls.{put, rebased, moveOn, discard, cap, ended, forced, lost, skipped, putEach, rangeAt, irrelevantRange, Answered}
 use Rattle.proxy_core.proofs.NatLaws.{nat-top}
 use Rattle.sequence_number.proofs.KindLaws.{rank-above}
 use Rattle.proxy_core.proofs.CallsLaws.{ok-put, ended-few, skipped-none, skipped-some, ok-cut, skipped-same, range-at-low, range-at-above, ok-range}
@@ -161,7 +162,7 @@ module _ (w : List ℕ) (g : Good w) (a b x y T : ℕ) (h : stateOf w .base < a)
         let v : length (rangeIn a b (tracked w)) ≡ cap + suc (T - cap - 1) = omega (arith, all) in
         let i : suc (T - cap - 1) ≡ T - cap = omega arith in
         rw (each, ended-many s (T - cap - 1) (rising-range (stateOf w .base) top a b (tracked w) (g .ok .rising) (omega arith) j k) v, ← f, i)
-        (ap (λ (b : ℕ). Forced b c) (base-word cap w (omega arith) g), z ∙ ap recordOf rest)
+        (ap (λ (b : ℕ). done (forced b c)) (base-word cap w (omega arith) g), z ∙ ap recordOf rest)
 
   -- the range stays whole: the base is after the last entry that goes
   module _ (q : cap < T) (v : T - cap ≤ x) (e : ℕ) (c : e ≡ getD (take 257 (drop 4 w)) (T - cap - 1) 0) (u : List ℕ)

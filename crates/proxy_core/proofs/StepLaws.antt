@@ -11,6 +11,7 @@ use mir.Syntax.{w64}
 use mir.Val.{SFits, ofZ, toZ}
 use borrow.Author.Tests.{lt-ltb, le-ltb, eq-eqb, ne-eqb}
 use Rattle.sequence_number.specs.Number.{top, isNumber, natOf, numberOf}
+use Rattle.sequence_number.specs.Outcome.{done}
 use Rattle.sequence_number.proofs.NumberLaws.{number-passed}
 use Rattle.proxy_record.specs.Entries.{Entry, blank, from, runLen}
 use Rattle.proxy_record.specs.State.{State, Ok, changed}
@@ -22,7 +23,7 @@ use Rattle.proxy_record.proofs.RecordLaws.{kept-of, good-kept, of-laid, state-o
 use Rattle.proxy_record.proofs.RowLaws.{number-word}
 use Rattle.proxy_core.specs.declared.Report.{Report}
 use Rattle.proxy_core.specs.declared.Report.the-variants.{Done, Forced, Refused}
-use Rattle.proxy_core.specs.Calls.{Reply, noted, put, moveOn, discard, settled, cap, capped, ended, refused, got, receivedAt, received, irrelevant, Answered}
+use Rattle.proxy_core.specs.Calls.{Reply, noted, put, moveOn, discard, settled, cap, capped, ended, refuses, forced, got, receivedAt, received, irrelevant, Answered}
 use Rattle.proxy_core.proofs.CallsLaws.{ok-more, ok-noted, ok-put, ok-advanced, settled-old, settled-at, settled-other, settled-first, ended-few, lowest-gone, noted-kept, received-is, ok-received, ok-irrelevant}
 
 -- what a call answers and leaves is what a reply says
@@ -121,7 +122,7 @@ module _ (w : List ℕ) (g : GoodUpTo 257 w) where
       let y : max (s .base) (suc (getD (s .tracked) 0 blank .number)) ≡ b = omega (arith, number-word 257 0 w (omega arith) g k) in
       let d = kept-of (changed (drop 1 (s .tracked)) s) u (simp length-drop (omega (arith, g .ok .few))) z in
       rw (n, lt-ltb cap (length (tracked w)) m, lowest-gone (tracked w) s k, y) (
-        ap (λ (v : ℕ). Forced v b) c,
+        ap (λ (v : ℕ). done (forced v b)) c,
         of-laid (record { base = b; tracked = drop 1 (s .tracked); last = s .last; time = s .time }) (base-laid d b) refl refl refl refl refl refl refl,
       )
 
@@ -199,7 +200,7 @@ module _ (n : ℤ) (k : ℕ) (f : SFits w64 n) (e : k ≡ numberOf (toZ w64 (ofZ
       (λ w. rw (w .2, ← w .3) a)
       (number-passed n k f e)
 
-  pub taken-not : (x : Reply) (w : List ℕ) → Good w → k ≡ 0 → Answered (Refused 4) w (cond (isNumber n) x (refused 4 (stateOf w)))
+  pub taken-not : (x : Reply) (w : List ℕ) → Good w → k ≡ 0 → Answered (Refused 4) w (cond (isNumber n) x (refuses 4 (stateOf w)))
   taken-not x w g h =
       ⊎-elim
       (λ v. rw (v .1) (refl, g .made))

@@ -8,6 +8,7 @@ use lib.Dec.{ltb, leb, eqb}
 use lib.IntN.{ℤ, pos}
 use lib.Signed.{ltZ}
 use Rattle.sequence_number.specs.Number.{isNumber, natOf}
+use Rattle.sequence_number.specs.Outcome.{Outcome, refused, done}
 use Rattle.proxy_record.specs.Entries.{Entry, NotAvailable, Received, below, from, putIn, runLen}
 use Rattle.proxy_record.specs.State.{State, changed}
 use Rattle.proxy_record.specs.Record.{recordOf}
@@ -60,18 +61,29 @@ trim (suc k) s = trim k (lowestGone (s .tracked) s)
 unfoldable pub capped : State → State
 capped s = trim (length (s .tracked) - cap) s
 
+-- what an accepted call reports: nothing, or "a forced step with old and new base"
+pub data Forcing : Type 0 where
+  unforced : Forcing
+  forced : ℕ → ℕ → Forcing
+
+-- the paper's number and values for each answer
+abbrev pub reported : Report → Outcome Forcing
+reported Done = done unforced
+reported (Forced old new) = done (forced old new)
+reported (Refused k) = refused k
+
 -- what a call answers, and the state after it
 pub record Reply : Type 0 where
   pub state : State
-  pub report : Report
+  pub report : Outcome Forcing
 
 -- "Cap, last .. The answer reports a forced step with old and new base"
 unfoldable pub ended : State → Reply
-ended s = record { state = capped s; report = cond (ltb cap (length (s .tracked))) (Forced (s .base) (capped s .base)) Done }
+ended s = record { state = capped s; report = cond (ltb cap (length (s .tracked))) (done (forced (s .base) (capped s .base))) (done unforced) }
 
 -- "Every refusal returns its number alone and leaves state .. untouched"
-abbrev pub refused : ℕ → State → Reply
-refused k s = record { state = s; report = Refused k }
+abbrev pub refuses : ℕ → State → Reply
+refuses k s = record { state = s; report = refused k }
 
 -- Received
 
@@ -87,7 +99,7 @@ unfoldable pub receivedAt : ℕ → ℕ → State → Reply
 receivedAt n t s = ended (settled n (put (got n t) (noted n t s)))
 
 unfoldable pub received : ℤ → ℕ → State → Reply
-received n t s = cond (isNumber n) (receivedAt (natOf n) t s) (refused 4 s)
+received n t s = cond (isNumber n) (receivedAt (natOf n) t s) (refuses 4 s)
 
 -- One irrelevant
 
@@ -96,7 +108,7 @@ unfoldable pub irrelevantAt : ℕ → State → Reply
 irrelevantAt n s = ended (settled n (cond (ltb n (s .base)) s (put (lost n) s)))
 
 unfoldable pub irrelevant : ℤ → State → Reply
-irrelevant n s = cond (isNumber n) (irrelevantAt (natOf n) s) (refused 4 s)
+irrelevant n s = cond (isNumber n) (irrelevantAt (natOf n) s) (refuses 4 s)
 
 -- Irrelevant range, from a until before b
 
@@ -118,7 +130,7 @@ rangeAt a b s = ended (cond (leb a (s .base)) (skipped a b s) (putEach a (b - a)
 
 -- row 5: "range with a > b". No tracked number and no base is below 1, so a negative end is as good as 0
 unfoldable pub irrelevantRange : ℤ → ℤ → State → Reply
-irrelevantRange a b s = cond (ltZ b a) (refused 5 s) (rangeAt (natOf a) (natOf b) s)
+irrelevantRange a b s = cond (ltZ b a) (refuses 5 s) (rangeAt (natOf a) (natOf b) s)
 
 -- "Up to s" is the range 0 until s
 abbrev pub upTo : ℤ → State → Reply
@@ -126,4 +138,4 @@ upTo n s = irrelevantRange (pos 0) n s
 
 -- What is promised of a call: its answer, and the lent words after it
 abbrev pub Answered : Report → List ℕ → Reply → Type 0
-Answered r w x = (r ≡ x .report) × (w ≡ recordOf (x .state))
+Answered r w x = (reported r ≡ x .report) × (w ≡ recordOf (x .state))

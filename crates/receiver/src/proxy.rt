@@ -7,18 +7,18 @@ use writer_proxy::query::Status;
 ghost use mathlib.Core.Path.{_≡_};
 ghost use Prim.Native.Nat.{_≤_};
 ghost use lib.ListN.{length, take};
+ghost use Rattle.sequence_number.specs.Outcome.{refusal};
 ghost use Rattle.proxy_record.specs.Record.{Good, stateOf, size};
 ghost use Rattle.proxy_core.specs.Calls.{received, irrelevant, irrelevantRange, upTo};
 ghost use Rattle.writer_proxy.specs.SetUp.{setUp};
 ghost use Rattle.writer_proxy.specs.Queries.{ignored, statusOf, lastOf};
 ghost use Rattle.writer_proxy.specs.Missing.{listed as listedOf};
 ghost use Rattle.writer_proxy.specs.Counter.{nextCount};
-ghost use Rattle.writer_proxy.specs.Answers.{refusalOf, statusNumberOf, statusTimeOf, lastNumberOf, lastTimeOf};
-ghost use Rattle.receiver.specs.ProxyExports.{Replies, ListsMissing, statusTime, lastTime};
+ghost use Rattle.receiver.specs.ProxyExports.{Replies, ListsMissing, statusNumber, statusTime, lastNumber, lastTime};
 
 #[no_mangle]
 pub extern "C" fn drucenal_proxy_set_up(words: &mut [u64]) -> u32
-    ensures { λ r. ⌜ (r ≡ refusalOf (setUp (now (words .entry)) .report)) × (now (words .exit) ≡ setUp (now (words .entry)) .words) ⌝ }
+    ensures { λ r. ⌜ (r ≡ refusal (setUp (now (words .entry)) .report)) × (now (words .exit) ≡ setUp (now (words .entry)) .words) ⌝ }
     ensures { λ r. ⌜ (size ≤ length (now (words .entry)) → Good (take size (now (words .exit)))) ⌝ }
 {
     match writer_proxy::set_up::set_up(words) {
@@ -150,7 +150,7 @@ pub extern "C" fn drucenal_proxy_should_ignore_change(words: &[u64], number: i64
 #[no_mangle]
 pub extern "C" fn drucenal_proxy_change_status(words: &[u64], number: i64, time: &mut u64) -> u32
     requires { ⌜ Good (now words) ⌝ }
-    ensures { λ r. ⌜ (r ≡ statusNumberOf (statusOf number (stateOf (now (words .entry))))) × (now (time .exit) ≡ statusTime (statusOf number (stateOf (now (words .entry)))) (now (time .entry))) ⌝ }
+    ensures { λ r. ⌜ (r ≡ statusNumber (statusOf number (stateOf (now (words .entry))))) × (now (time .exit) ≡ statusTime (statusOf number (stateOf (now (words .entry)))) (now (time .entry))) ⌝ }
 {
     match writer_proxy::query::change_status(words, number) {
         Status::Untracked => 0,
@@ -166,7 +166,7 @@ pub extern "C" fn drucenal_proxy_change_status(words: &[u64], number: i64, time:
 #[no_mangle]
 pub extern "C" fn drucenal_proxy_last_received(words: &[u64], time: &mut u64) -> u64
     requires { ⌜ Good (now words) ⌝ }
-    ensures { λ r. ⌜ (r ≡ lastNumberOf (lastOf (stateOf (now (words .entry))))) × (now (time .exit) ≡ lastTime (lastOf (stateOf (now (words .entry)))) (now (time .entry))) ⌝ }
+    ensures { λ r. ⌜ (r ≡ lastNumber (lastOf (stateOf (now (words .entry))))) × (now (time .exit) ≡ lastTime (lastOf (stateOf (now (words .entry)))) (now (time .entry))) ⌝ }
 {
     match writer_proxy::query::last_change(words) {
         Last::Nothing => 0,

@@ -10,15 +10,15 @@ use lib.IntN.{ℤ, pos}
 use borrow.Author.Tests.{lt-ltb, le-ltb, ltb-false}
 use Rattle.sequence_number.specs.Number.{top, natOf}
 use Rattle.sequence_number.specs.Lent.{over}
+use Rattle.sequence_number.specs.Outcome.{Outcome, refused, done, refusal}
 use Rattle.sequence_number.specs.declared.wire.Written.the-variants as Written
 use Rattle.sequence_number.proofs.Split.{split}
 use Rattle.sequence_number.proofs.RunLaws.{set-sets, sets-over}
 use Rattle.proxy_record.specs.State.{State}
 use Rattle.proxy_record.specs.Record.{Good, layout, recordOf, stateOf}
 use Rattle.proxy_core.specs.declared.Report.{Report}
-use Rattle.proxy_core.specs.Calls.{Reply, received, irrelevantRange, Answered}
-use Rattle.writer_proxy.specs.Answers.{refusalOf}
-use Rattle.writer_proxy.specs.Missing.{missingOf, listed}
+use Rattle.proxy_core.specs.Calls.{reported, Reply, received, irrelevantRange, Answered}
+use Rattle.writer_proxy.specs.Missing.{missingOf, listing, listed}
 use Rattle.writer_proxy.specs.declared.missing.Listing.{Listing}
 use Rattle.writer_proxy.specs.declared.missing.Listing.the-variants as Listing
 use Rattle.replay_lines.specs.Decimal.{started, lineOf}
@@ -49,10 +49,10 @@ told-as n out out′ kind x y x′ y′ w e f = wrote-as n out out′ kind _ _ (
 
 -- Missing lists
 
-counted-listed : (numbers : List ℕ) (base k : ℕ) (a : Listing) → a ≡ Listing.Listed k → counted numbers base a ≡ 0 ∷ base ∷ k ∷ numbers
+counted-listed : (numbers : List ℕ) (base k : ℕ) (a : Outcome ℕ) → a ≡ done k → counted numbers base a ≡ 0 ∷ base ∷ k ∷ numbers
 counted-listed numbers base k a e = rw e
 
-counted-refused : (numbers : List ℕ) (base k : ℕ) (a : Listing) → a ≡ Listing.Refused k → counted numbers base a ≡ k ∷ base ∷ []
+counted-refused : (numbers : List ℕ) (base k : ℕ) (a : Outcome ℕ) → a ≡ refused k → counted numbers base a ≡ k ∷ base ∷ []
 counted-refused numbers base k a e = rw e
 
 map-back : (m : List ℕ) → map natOf (map pos m) ≡ m
@@ -60,9 +60,9 @@ map-back [] = refl
 map-back (n ∷ m) = ap (λ (l : List ℕ). n ∷ l) (map-back m)
 
 -- an answer, and what the lent list then holds
-module _ (start end : ℤ) (s : State) (lent : List ℤ) (r : Listing) (o : List ℤ) (r-is : r ≡ listed start end s lent .answer) (o-is : o ≡ listed start end s lent .output) where
+module _ (start end : ℤ) (s : State) (lent : List ℤ) (r : Listing) (o : List ℤ) (r-is : listing r ≡ listed start end s lent .answer) (o-is : o ≡ listed start end s lent .output) where
   -- a list that was given is as long as it says and stands at the front
-  given-list : (k : ℕ) → listed start end s lent .answer ≡ Listing.Listed k
+  given-list : (k : ℕ) → listed start end s lent .answer ≡ done k
       → (k ≡ length (missingOf start end s)) × (k ≤ length lent) × (listed start end s lent .output ≡ over (map pos (missingOf start end s)) lent)
   unfolding listed
   given-list k =
@@ -77,7 +77,7 @@ module _ (start end : ℤ) (s : State) (lent : List ℤ) (r : Listing) (o : List
   numbers-back : (k : ℕ) (rest : List ℤ) → r ≡ Listing.Listed k → (k ≤ length lent) × (k ≤ length (o ++ rest)) × (map natOf (take k (o ++ rest)) ≡ missingOf start end s)
   numbers-back k rest e =
       let m = missingOf start end s in
-      let g = given-list k (sym r-is ∙ e) in
+      let g = given-list k (sym r-is ∙ ap listing e) in
       let w : o ++ rest ≡ map pos m ++ (drop (length (map pos m)) lent ++ rest) =
       ap (λ (l : List ℤ). l ++ rest) (o-is ∙ g .2) ∙ append-assoc (map pos m) (drop (length (map pos m)) lent) rest in
       let n : length (map pos m) ≡ k = length-map m pos ∙ sym (g .0) in (
@@ -86,25 +86,25 @@ module _ (start end : ℤ) (s : State) (lent : List ℤ) (r : Listing) (o : List
         ap (λ (l : List ℤ). map natOf (take k l)) w ∙ ap (map natOf) (take-at (map pos m) (drop (length (map pos m)) lent ++ rest) k n) ∙ map-back m,
       )
 
-module _ (start end : ℤ) (s : State) (list : List ℤ) (r : Listing) (o : List ℤ) (r-is : r ≡ listed start end s (take room list) .answer) (o-is : o ≡ listed start end s (take room list) .output)
+module _ (start end : ℤ) (s : State) (list : List ℤ) (r : Listing) (o : List ℤ) (r-is : listing r ≡ listed start end s (take room list) .answer) (o-is : o ≡ listed start end s (take room list) .output)
     (n : ℕ) (out out′ : List ℕ) (base : ℕ) (base-is : base ≡ s .base) where
   pub missing-told : (k : ℕ) → r ≡ Listing.Listed k → Wrote n out out′ 3 (0 ∷ base ∷ k ∷ map natOf (take k (o ++ drop room list)))
       → Wrote n out out′ 3 (toldMissing start end s list .after) × (o ++ drop room list ≡ toldMissing start end s list .list)
   missing-told k e w =
       let m = numbers-back start end s (take room list) r o r-is o-is k (drop room list) e .2 in (
-        wrote-as n out out′ 3 _ _ ((λ i. 0 ∷ base-is i ∷ k ∷ m i) ∙ sym (counted-listed _ _ k _ (sym r-is ∙ e))) w,
+        wrote-as n out out′ 3 _ _ ((λ i. 0 ∷ base-is i ∷ k ∷ m i) ∙ sym (counted-listed _ _ k _ (sym r-is ∙ ap listing e))) w,
         ap (λ (l : List ℤ). l ++ drop room list) o-is,
       )
 
   pub missing-refused : (k : ℕ) → r ≡ Listing.Refused k → Wrote n out out′ 3 (k ∷ base ∷ [])
       → Wrote n out out′ 3 (toldMissing start end s list .after) × (o ++ drop room list ≡ toldMissing start end s list .list)
   missing-refused k e w = (
-    wrote-as n out out′ 3 _ _ ((λ i. k ∷ base-is i ∷ []) ∙ sym (counted-refused _ _ k _ (sym r-is ∙ e))) w,
+    wrote-as n out out′ 3 _ _ ((λ i. k ∷ base-is i ∷ []) ∙ sym (counted-refused _ _ k _ (sym r-is ∙ ap listing e))) w,
     ap (λ (l : List ℤ). l ++ drop room list) o-is,
   )
 
 -- what the line of a missing list asks for
-pub missing-fits : (start end : ℤ) (s : State) (list : List ℤ) (r : Listing) (o : List ℤ) (k : ℕ) → r ≡ listed start end s (take room list) .answer
+pub missing-fits : (start end : ℤ) (s : State) (list : List ℤ) (r : Listing) (o : List ℤ) (k : ℕ) → listing r ≡ listed start end s (take room list) .answer
     → o ≡ listed start end s (take room list) .output → r ≡ Listing.Listed k → (k ≤ room) × (k ≤ length (o ++ drop room list))
 missing-fits start end s list r o k r-is o-is e =
     let m = numbers-back start end s (take room list) r o r-is o-is k (drop room list) e in
@@ -118,20 +118,20 @@ base-is s = refl
 
 -- a call that changes the proxy
 did-told : (n kind : ℕ) (x : Reply) (r : Report) (w : List ℕ) (list : List ℤ) (out out′ : List ℕ) → Answered r w x
-    → Wrote n out out′ kind (refusalOf r ∷ stateOf w .base ∷ []) → Did n w list out out′ (told kind x list)
+    → Wrote n out out′ kind (refusal (reported r) ∷ stateOf w .base ∷ []) → Did n w list out out′ (told kind x list)
 did-told n kind x r w list out out′ a t = record {
   words-are = a .1;
   list-is = refl;
-  wrote = told-as n out out′ kind _ _ _ _ t (ap refusalOf (a .0)) (ap (λ (y : List ℕ). stateOf y .base) (a .1) ∙ base-is (x .state));
+  wrote = told-as n out out′ kind _ _ _ _ t (ap refusal (a .0)) (ap (λ (y : List ℕ). stateOf y .base) (a .1) ∙ base-is (x .state));
 }
 
 module _ (n : ℕ) (frame : Frame) (s : State) (w : List ℕ) (list : List ℤ) (out out′ : List ℕ) where
-  pub did-received : (r : Report) (a : ℤ) (t : ℕ) → frame ≡ Received a t → Answered r w (received a t s) → Wrote n out out′ 1 (refusalOf r ∷ stateOf w .base ∷ [])
+  pub did-received : (r : Report) (a : ℤ) (t : ℕ) → frame ≡ Received a t → Answered r w (received a t s) → Wrote n out out′ 1 (refusal (reported r) ∷ stateOf w .base ∷ [])
       → Did n w list out out′ (stepOf (Reads frame) s list)
   unfolding stepOf
   did-received r a t e x y = rw e (did-told n 1 (received a t s) r w list out out′ x y)
 
-  pub did-range : (r : Report) (a z : ℤ) → frame ≡ Range a z → Answered r w (irrelevantRange a z s) → Wrote n out out′ 2 (refusalOf r ∷ stateOf w .base ∷ [])
+  pub did-range : (r : Report) (a z : ℤ) → frame ≡ Range a z → Answered r w (irrelevantRange a z s) → Wrote n out out′ 2 (refusal (reported r) ∷ stateOf w .base ∷ [])
       → Did n w list out out′ (stepOf (Reads frame) s list)
   unfolding stepOf
   did-range r a z e x y = rw e (did-told n 2 (irrelevantRange a z s) r w list out out′ x y)

@@ -7,15 +7,13 @@ use lib.ListN.{length, take, drop}
 use lib.Dec.{ltb}
 use lib.IntN.{ℤ}
 use Rattle.sequence_number.specs.Lent.{over}
+use Rattle.sequence_number.specs.Outcome.{Outcome, refused, done, refusal}
 use Rattle.sequence_number.specs.declared.wire.Written.{Written}
 use Rattle.sequence_number.specs.declared.wire.Written.the-variants as Written
 use Rattle.proxy_record.specs.State.{State}
 use Rattle.proxy_record.specs.Record.{recordOf, stateOf}
 use Rattle.proxy_core.specs.Calls.{Reply, received, irrelevantRange}
-use Rattle.writer_proxy.specs.Answers.{refusalOf}
 use Rattle.writer_proxy.specs.Missing.{missingOf, listed}
-use Rattle.writer_proxy.specs.declared.missing.Listing.{Listing}
-use Rattle.writer_proxy.specs.declared.missing.Listing.the-variants as Listing
 use Rattle.replay_lines.specs.Decimal.{lineOf}
 use Rattle.replay_lines.specs.Frame.{parsed}
 use Rattle.replay_lines.specs.declared.frame.Frame.the-variants.{Received, Range, Missing}
@@ -39,12 +37,12 @@ pub record Step : Type 0 where
 
 -- "Each line gives kind, refusal or 0, ack base"
 abbrev pub told : ℕ → Reply → List ℤ → Step
-told kind x list = record { state = x .state; kind = kind; after = refusalOf (x .report) ∷ x .state .base ∷ []; list = list }
+told kind x list = record { state = x .state; kind = kind; after = refusal (x .report) ∷ x .state .base ∷ []; list = list }
 
 -- "03 accepted adds count and numbers"
-abbrev pub counted : List ℕ → ℕ → Listing → List ℕ
-counted numbers base (Listing.Listed n) = 0 ∷ base ∷ n ∷ numbers
-counted numbers base (Listing.Refused k) = k ∷ base ∷ []
+abbrev pub counted : List ℕ → ℕ → Outcome ℕ → List ℕ
+counted numbers base (done n) = 0 ∷ base ∷ n ∷ numbers
+counted numbers base (refused k) = k ∷ base ∷ []
 
 abbrev pub toldMissing : ℤ → ℤ → State → List ℤ → Step
 toldMissing start end s list = record {

@@ -5,8 +5,9 @@ ghost use Prim.Native.Nat.{_≤_};
 ghost use lib.ListN.{length, take};
 ghost use lib.Seq.{sets};
 ghost use Rattle.sequence_number.specs.Number.{top, natOf};
+ghost use Rattle.sequence_number.specs.Outcome.{refusal};
 ghost use Rattle.proxy_record.specs.Record.{Good, stateOf};
-ghost use Rattle.writer_proxy.specs.Answers.{refusalOf};
+ghost use Rattle.proxy_core.specs.Calls.{reported};
 ghost use Rattle.replay_lines.specs.Decimal.{started};
 ghost use Rattle.replay_lines.specs.Frame.{parsed};
 ghost use Rattle.replay_lines.specs.Answer.{room, enough, toldMissing, stepOf, Wrote, Did, answered, Answered};
@@ -32,7 +33,7 @@ pub const ANSWER: usize = 5148;
 
 // Document 01's refusal number, or 0.
 fn refusal_of(r: Report) -> u64
-    ensures { λ n. ⌜ n ≡ refusalOf r ⌝ }
+    ensures { λ n. ⌜ n ≡ refusal (reported r) ⌝ }
 {
     match r {
         Report::Done => 0,
@@ -76,7 +77,7 @@ fn put_missing(out: &mut [u8], base: u64, list: &[i64], count: usize) -> usize
 // The line of a call that changed the proxy, or would have.
 fn tell(words: &[u64], kind: u64, r: Report, out: &mut [u8]) -> usize
     requires { ⌜ Good (now words) × (enough ≤ length (now out)) ⌝ }
-    ensures { λ n. ⌜ Wrote n (now (out .entry)) (now (out .exit)) kind (refusalOf r ∷ stateOf (now (words .entry)) .base ∷ []) ⌝ }
+    ensures { λ n. ⌜ Wrote n (now (out .entry)) (now (out .exit)) kind (refusal (reported r) ∷ stateOf (now (words .entry)) .base ∷ []) ⌝ }
 {
     let refusal = refusal_of(r);
     let base = all_ackable_before(words);

@@ -1,10 +1,9 @@
 // A line as a frame: a kind byte and two signed 8-byte big-endian numbers.
 ghost use mathlib.Core.Path.{_≡_};
-ghost use mir.Syntax.{w64};
-ghost use mir.Val.{toZ};
 ghost use Rattle.replay_lines.specs.Frame.{parsed, frameOf};
 use crate::hex::all_hex;
 use crate::hex::value_at;
+use sequence_number::signed::of_bits;
 
 // What a line asks of the proxy.
 pub enum Frame {
@@ -22,36 +21,25 @@ pub enum Parsed {
 // How many digits a line has.
 const DIGITS: usize = 34;
 
-// The signed number whose two's complement bits are u.
-fn signed(u: u64) -> i64
-    ensures { λ r. ⌜ r ≡ toZ w64 u ⌝ }
-{
-    if u < 0x8000_0000_0000_0000 {
-        u as i64
-    } else {
-        !((!u) as i64)
-    }
-}
-
 fn frame_of(kind: u64, a: u64, b: u64) -> Parsed
     ensures { λ r. ⌜ r ≡ frameOf kind a b ⌝ }
 {
     if kind == 1 {
         return Parsed::Reads(Frame::Received {
-            number: signed(a),
+            number: of_bits(a),
             time: b,
         });
     }
     if kind == 2 {
         return Parsed::Reads(Frame::Range {
-            from: signed(a),
-            until: signed(b),
+            from: of_bits(a),
+            until: of_bits(b),
         });
     }
     if kind == 3 {
         return Parsed::Reads(Frame::Missing {
-            start: signed(a),
-            end: signed(b),
+            start: of_bits(a),
+            end: of_bits(b),
         });
     }
     Parsed::Malformed

@@ -27,8 +27,8 @@ pub equal-determined : {A : Type 0} {r r′ x : A} → r ≡ x → r′ ≡ x �
 equal-determined p q = p ∙ sym q
 
 -- an answer is known from what it says, where what it says can be turned back into it
-pub said-determined : {E A : Type 0} (said : E → Outcome A) (back : Outcome A → E) → ((r : E) → back (said r) ≡ r) → (r r′ : E) {x : Outcome A}
-    → said r ≡ x → said r′ ≡ x → r ≡ r′
+pub said-determined : {E A : Type 0} (said : E → A) (back : A → E) → ((r : E) → back (said r) ≡ r) → (r r′ : E) {x : A} → said r ≡ x → said r′ ≡ x
+    → r ≡ r′
 said-determined said back b r r′ p q = sym (b r) ∙ ap back (p ∙ sym q) ∙ b r′
 
 abbrev sequence-back : Outcome ℤ → SequenceNumberRead

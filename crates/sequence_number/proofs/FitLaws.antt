@@ -68,3 +68,15 @@ fragment-agree base fit e k h = go (decLt k fit)
     go : Dec (k < fit) → ltb k fit ≡ fragment .fits base k
     go (yes p) = lt-ltb k fit p ∙ sym (lt-ltb (base + k) (2 ^ 32) (omega arith))
     go (no p) = le-ltb k fit (omega arith) ∙ sym (le-ltb (base + k) (2 ^ 32) (omega arith))
+
+-- a position below one that fits, fits
+pub fits-below : (b : ℤ) (k m : ℕ) → k ≤ m → sequence .fits b m ≡ true → sequence .fits b k ≡ true
+fits-below (pos a) k m h t = lt-ltb (a + k) (2 ^ 63) (omega (arith, ltb-true (a + m) (2 ^ 63) t))
+fits-below (negsuc a) k m h t = go (decLt k (suc a)) (decLt m (suc a)) t
+  where
+    go : Dec (k < suc a) → Dec (m < suc a) → sequence .fits (negsuc a) m ≡ true → sequence .fits (negsuc a) k ≡ true
+    go (yes p) q u = rw (lt-ltb k (suc a) p)
+    go (no p) (yes q) u = absurd (omega (arith, p))
+    go (no p) (no q) u =
+        let v : ltb (m - suc a) (2 ^ 63) ≡ true = rw (le-ltb m (suc a) (omega (arith, q))) at u in
+        rw (le-ltb k (suc a) (omega (arith, p))) (lt-ltb (k - suc a) (2 ^ 63) (omega (arith, p, ltb-true (m - suc a) (2 ^ 63) v)))

@@ -8,7 +8,9 @@ pub mod NumberWireLaws
 pub mod BitLaws
 pub mod PositionLaws
 pub mod SetWireLaws
+pub mod WordBitLaws
 pub mod WalkLaws
+pub mod ClimbLaws
 pub mod FitLaws
 pub mod MakeLaws
 pub mod MemberLaws

@@ -17,7 +17,7 @@ module _ (ws : List ℕ) where
   positions-no i e = ap (positions ws) (add-one i) ∙ ap (λ (b : Bool). positions ws i ++ onlyIf b i) e ∙ append-nil (positions ws i)
 
   -- those below i stand at the front of those below i + k
-  more : (i k : ℕ) → (r : List ℕ) × (positions ws (i + k) ≡ positions ws i ++ r)
+  pub more : (i k : ℕ) → (r : List ℕ) × (positions ws (i + k) ≡ positions ws i ++ r)
   more i zero = ([], ap (positions ws) (add-zero i) ∙ sym (append-nil (positions ws i)))
   more i (suc k) =
       let m = more i k in
@@ -30,14 +30,6 @@ module _ (ws : List ℕ) where
       let m = more (i + 1) (n - (i + 1)) in
       let k : (i + 1) + (n - (i + 1)) ≡ n = omega arith in
       (m .0, ap (positions ws) (sym k) ∙ m .1 ∙ ap (λ (l : List ℕ). l ++ m .0) (positions-yes i e))
-
-  pub position-place : (i n : ℕ) → i < n → hasBit ws i ≡ true → length (positions ws i) < length (positions ws n)
-  position-place i n h e =
-      let s = position-split i n h e in
-      let a = length-append (positions ws i ++ (i ∷ [])) (s .0) in
-      let b = length-append (positions ws i) (i ∷ []) in
-      let d = ap length (s .1) in
-      omega arith
 
   pub length-positions : (i : ℕ) → length (positions ws i) ≤ i
   length-positions zero = omega arith

@@ -25,3 +25,7 @@ onlyIf false i = []
 abbrev pub positions : List ℕ → ℕ → List ℕ
 positions ws zero = []
 positions ws (suc n) = positions ws n ++ onlyIf (hasBit ws n) n
+
+-- the set bits of one word, rising
+unfoldable pub wordPositions : ℕ → List ℕ
+wordPositions w = positions (w ∷ []) 32

@@ -3,7 +3,7 @@ mod bitmap;
 pub mod make;
 pub mod number;
 pub mod set;
-mod signed;
+pub mod signed;
 pub mod walk;
 pub mod wire;
 mod word;

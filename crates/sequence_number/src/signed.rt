@@ -11,7 +11,7 @@ pub(crate) fn bits_of(n: i64) -> u64
 }
 
 // The signed number whose two's complement bits are u.
-pub(crate) fn of_bits(u: u64) -> i64
+pub fn of_bits(u: u64) -> i64
     ensures { λ r. ⌜ r ≡ toZ w64 u ⌝ }
 {
     if u < 0x8000_0000_0000_0000 {

@@ -5,15 +5,15 @@ use crate::set::SequenceNumberSet;
 use crate::set::Walked;
 use crate::signed::bits_of;
 ghost use mathlib.Core.Path.{_≡_};
-ghost use mathlib.Core.Bool.{true, false, cond};
-ghost use mathlib.Core.List.{map, reverse};
-ghost use Prim.Native.Nat.{ℕ, _-_, _≤_, _<_, min};
+ghost use mathlib.Core.Bool.{true, false, cond, _&&_};
+ghost use mathlib.Core.List.{[], _∷_, map, reverse};
+ghost use Prim.Native.Nat.{ℕ, _+_, _-_, _≤_, _<_, min};
 ghost use lib.ListN.{length};
 ghost use lib.Dec.{ltb};
 ghost use lib.Seq.{sets};
 ghost use Rattle.sequence_number.specs.Outcome.{refused, done};
 ghost use Rattle.sequence_number.specs.Kind.{sequence, fragment};
-ghost use Rattle.sequence_number.specs.Bitmap.{positions};
+ghost use Rattle.sequence_number.specs.Bitmap.{hasBit, positions, wordPositions};
 ghost use Rattle.sequence_number.specs.NumberSet.{sequenceSet, fragmentSet};
 ghost use Rattle.sequence_number.specs.Walk.{walked, anyPast, Walks};
 
@@ -58,78 +58,195 @@ fn fragment_fit(base: u32) -> u32
     if top < 256 { top + 1 } else { 256 }
 }
 
-// The members from the lowest on, from the front of the lent list.
-fn rise_sequence(base: i64, words: [u32; 8], count: u32, out: &mut [i64])
+// What refuses a walk of at most 256 bits, in this order: 4, 3; else 0. Of either width.
+fn refused(words: [u32; 8], count: u32, fit: u32, room: usize) -> u8
     requires { ⌜ count ≤ 256 ⌝ }
-    requires { ⌜ anyPast (sequence .fits base) (positions words count) ≡ false ⌝ }
-    requires { ⌜ length (positions words count) ≤ length (now out) ⌝ }
-    ensures { λ _. ⌜ now (out .exit) ≡ sets (now (out .entry)) 0 (map (sequence .plus base) (positions words count)) ⌝ }
+    ensures { λ r. ⌜ r ≡ cond (anyPast (λ i. ltb i fit) (positions words count)) 4 (cond (ltb room (length (positions words count))) 3 0) ⌝ }
 {
-    let mut n: usize = 0;
-    let mut i: u32 = 0;
-    while i < count {
-        if has(words, i) {
+    // No position is past its type, and there are no more members than positions.
+    if count <= fit {
+        if count as usize <= room {
+            return 0;
+        }
+    }
+    match survey(words, count, fit) {
+        Walked::Refused(n) => n,
+        Walked::Listed(n) => {
+            if room < n {
+                return 3;
+            }
+            0
+        }
+    }
+}
+
+// The first m bits of a word.
+fn first_bits(w: u32, m: u32) -> u32
+    ensures { λ r. ⌜ ((i : ℕ) → i < 32 → hasBit (r ∷ []) i ≡ (ltb i m && hasBit (w ∷ []) i)) ⌝ }
+{
+    if 32 <= m {
+        return w;
+    }
+    if m == 0 {
+        return 0;
+    }
+    (w >> (32 - m)) << (32 - m)
+}
+
+// The members of one word, the lowest first, from place n on; and the place after them. A number that is no member is stored to where the next member goes.
+fn rise_word_sequence(base: i64, from: u32, word: u32, out: &mut [i64], place: usize) -> usize
+    requires { ⌜ from ≤ 224 ⌝ }
+    requires { ⌜ anyPast (λ i. sequence .fits base (from + i)) (wordPositions word) ≡ false ⌝ }
+    requires { ⌜ place + length (wordPositions word) ≤ length (now out) ⌝ }
+    ensures { λ r. ⌜ r ≡ place + length (wordPositions word) ⌝ }
+    ensures { λ _. ⌜ now (out .exit) ≡ sets (now (out .entry)) place (map (λ i. sequence .plus base (from + i)) (wordPositions word)) ⌝ }
+{
+    let mut n = place;
+    let mut w = word;
+    let mut i = from;
+    while w != 0 {
+        let x = base + i as i64;
+        out[n] = x;
+        n += (w >> 31) as usize;
+        w = w << 1;
+        i += 1;
+    }
+    n
+}
+
+fn rise_word_fragment(base: u32, from: u32, word: u32, out: &mut [u32], place: usize) -> usize
+    requires { ⌜ from ≤ 224 ⌝ }
+    requires { ⌜ anyPast (λ i. fragment .fits base (from + i)) (wordPositions word) ≡ false ⌝ }
+    requires { ⌜ place + length (wordPositions word) ≤ length (now out) ⌝ }
+    ensures { λ r. ⌜ r ≡ place + length (wordPositions word) ⌝ }
+    ensures { λ _. ⌜ now (out .exit) ≡ sets (now (out .entry)) place (map (λ i. fragment .plus base (from + i)) (wordPositions word)) ⌝ }
+{
+    let mut n = place;
+    let mut w = word;
+    let mut i = from;
+    while w != 0 {
+        out[n] = base + i;
+        n += (w >> 31) as usize;
+        w = w << 1;
+        i += 1;
+    }
+    n
+}
+
+// The members of one word, the highest first, from place n on; and the place after them.
+fn fall_word_sequence(base: i64, from: u32, word: u32, out: &mut [i64], place: usize) -> usize
+    requires { ⌜ from ≤ 224 ⌝ }
+    requires { ⌜ anyPast (λ i. sequence .fits base (from + i)) (wordPositions word) ≡ false ⌝ }
+    requires { ⌜ place + length (wordPositions word) ≤ length (now out) ⌝ }
+    ensures { λ r. ⌜ r ≡ place + length (wordPositions word) ⌝ }
+    ensures { λ _. ⌜ now (out .exit) ≡ sets (now (out .entry)) place (map (λ i. sequence .plus base (from + i)) (reverse (wordPositions word))) ⌝ }
+{
+    let mut n = place;
+    let mut w = word;
+    let mut i = from + 32;
+    while w != 0 {
+        i -= 1;
+        if w % 2 == 1 {
             let x = base + i as i64;
             out[n] = x;
             n += 1;
         }
-        i += 1;
+        w = w / 2;
     }
+    n
 }
 
-fn rise_fragment(base: u32, words: [u32; 8], count: u32, out: &mut [u32])
-    requires { ⌜ count ≤ 256 ⌝ }
-    requires { ⌜ anyPast (fragment .fits base) (positions words count) ≡ false ⌝ }
-    requires { ⌜ length (positions words count) ≤ length (now out) ⌝ }
-    ensures { λ _. ⌜ now (out .exit) ≡ sets (now (out .entry)) 0 (map (fragment .plus base) (positions words count)) ⌝ }
+fn fall_word_fragment(base: u32, from: u32, word: u32, out: &mut [u32], place: usize) -> usize
+    requires { ⌜ from ≤ 224 ⌝ }
+    requires { ⌜ anyPast (λ i. fragment .fits base (from + i)) (wordPositions word) ≡ false ⌝ }
+    requires { ⌜ place + length (wordPositions word) ≤ length (now out) ⌝ }
+    ensures { λ r. ⌜ r ≡ place + length (wordPositions word) ⌝ }
+    ensures { λ _. ⌜ now (out .exit) ≡ sets (now (out .entry)) place (map (λ i. fragment .plus base (from + i)) (reverse (wordPositions word))) ⌝ }
 {
-    let mut n: usize = 0;
-    let mut i: u32 = 0;
-    while i < count {
-        if has(words, i) {
+    let mut n = place;
+    let mut w = word;
+    let mut i = from + 32;
+    while w != 0 {
+        i -= 1;
+        if w % 2 == 1 {
             out[n] = base + i;
             n += 1;
         }
-        i += 1;
+        w = w / 2;
     }
+    n
 }
 
-// The members from the highest on, from the front of the lent list.
-fn fall_sequence(base: i64, words: [u32; 8], count: u32, out: &mut [i64])
+// The members from the lowest on, from the front of the lent list; and how many.
+fn rise_sequence(base: i64, words: [u32; 8], count: u32, out: &mut [i64]) -> usize
     requires { ⌜ count ≤ 256 ⌝ }
     requires { ⌜ anyPast (sequence .fits base) (positions words count) ≡ false ⌝ }
     requires { ⌜ length (positions words count) ≤ length (now out) ⌝ }
-    ensures { λ _. ⌜ now (out .exit) ≡ sets (now (out .entry)) 0 (map (sequence .plus base) (reverse (positions words count))) ⌝ }
+    ensures { λ r. ⌜ r ≡ length (positions words count) ⌝ }
+    ensures { λ _. ⌜ now (out .exit) ≡ sets (now (out .entry)) 0 (map (sequence .plus base) (positions words count)) ⌝ }
 {
+    let end = (count + 31) / 32;
     let mut n: usize = 0;
-    let mut i: u32 = count;
-    while 0 < i {
-        let k = i - 1;
-        if has(words, k) {
-            let x = base + k as i64;
-            out[n] = x;
-            n += 1;
-        }
-        i = k;
+    let mut k: u32 = 0;
+    while k < end {
+        let w = first_bits(words[k as usize], count - 32 * k);
+        n = rise_word_sequence(base, 32 * k, w, out, n);
+        k += 1;
     }
+    n
 }
 
-fn fall_fragment(base: u32, words: [u32; 8], count: u32, out: &mut [u32])
+fn rise_fragment(base: u32, words: [u32; 8], count: u32, out: &mut [u32]) -> usize
     requires { ⌜ count ≤ 256 ⌝ }
     requires { ⌜ anyPast (fragment .fits base) (positions words count) ≡ false ⌝ }
     requires { ⌜ length (positions words count) ≤ length (now out) ⌝ }
+    ensures { λ r. ⌜ r ≡ length (positions words count) ⌝ }
+    ensures { λ _. ⌜ now (out .exit) ≡ sets (now (out .entry)) 0 (map (fragment .plus base) (positions words count)) ⌝ }
+{
+    let end = (count + 31) / 32;
+    let mut n: usize = 0;
+    let mut k: u32 = 0;
+    while k < end {
+        let w = first_bits(words[k as usize], count - 32 * k);
+        n = rise_word_fragment(base, 32 * k, w, out, n);
+        k += 1;
+    }
+    n
+}
+
+// The members from the highest on, from the front of the lent list; and how many.
+fn fall_sequence(base: i64, words: [u32; 8], count: u32, out: &mut [i64]) -> usize
+    requires { ⌜ count ≤ 256 ⌝ }
+    requires { ⌜ anyPast (sequence .fits base) (positions words count) ≡ false ⌝ }
+    requires { ⌜ length (positions words count) ≤ length (now out) ⌝ }
+    ensures { λ r. ⌜ r ≡ length (positions words count) ⌝ }
+    ensures { λ _. ⌜ now (out .exit) ≡ sets (now (out .entry)) 0 (map (sequence .plus base) (reverse (positions words count))) ⌝ }
+{
+    let mut n: usize = 0;
+    let mut k: u32 = (count + 31) / 32;
+    while 0 < k {
+        k -= 1;
+        let w = first_bits(words[k as usize], count - 32 * k);
+        n = fall_word_sequence(base, 32 * k, w, out, n);
+    }
+    n
+}
+
+fn fall_fragment(base: u32, words: [u32; 8], count: u32, out: &mut [u32]) -> usize
+    requires { ⌜ count ≤ 256 ⌝ }
+    requires { ⌜ anyPast (fragment .fits base) (positions words count) ≡ false ⌝ }
+    requires { ⌜ length (positions words count) ≤ length (now out) ⌝ }
+    ensures { λ r. ⌜ r ≡ length (positions words count) ⌝ }
     ensures { λ _. ⌜ now (out .exit) ≡ sets (now (out .entry)) 0 (map (fragment .plus base) (reverse (positions words count))) ⌝ }
 {
     let mut n: usize = 0;
-    let mut i: u32 = count;
-    while 0 < i {
-        let k = i - 1;
-        if has(words, k) {
-            out[n] = base + k;
-            n += 1;
-        }
-        i = k;
+    let mut k: u32 = (count + 31) / 32;
+    while 0 < k {
+        k -= 1;
+        let w = first_bits(words[k as usize], count - 32 * k);
+        n = fall_word_fragment(base, 32 * k, w, out, n);
     }
+    n
 }
 
 impl SequenceNumberSet {
@@ -143,20 +260,14 @@ impl SequenceNumberSet {
         if 256 < count {
             return Walked::Refused(2);
         }
-        match survey(words, count, sequence_fit(base)) {
-            Walked::Refused(n) => Walked::Refused(n),
-            Walked::Listed(n) => {
-                if out.len() < n {
-                    return Walked::Refused(3);
-                }
-                if up {
-                    rise_sequence(base, words, count, out);
-                    return Walked::Listed(n);
-                }
-                fall_sequence(base, words, count, out);
-                Walked::Listed(n)
-            }
+        let refusal = refused(words, count, sequence_fit(base), out.len());
+        if refusal != 0 {
+            return Walked::Refused(refusal);
         }
+        if up {
+            return Walked::Listed(rise_sequence(base, words, count, out));
+        }
+        Walked::Listed(fall_sequence(base, words, count, out))
     }
 }
 
@@ -171,19 +282,13 @@ impl FragmentNumberSet {
         if 256 < count {
             return Walked::Refused(2);
         }
-        match survey(words, count, fragment_fit(base)) {
-            Walked::Refused(n) => Walked::Refused(n),
-            Walked::Listed(n) => {
-                if out.len() < n {
-                    return Walked::Refused(3);
-                }
-                if up {
-                    rise_fragment(base, words, count, out);
-                    return Walked::Listed(n);
-                }
-                fall_fragment(base, words, count, out);
-                Walked::Listed(n)
-            }
+        let refusal = refused(words, count, fragment_fit(base), out.len());
+        if refusal != 0 {
+            return Walked::Refused(refusal);
         }
+        if up {
+            return Walked::Listed(rise_fragment(base, words, count, out));
+        }
+        Walked::Listed(fall_fragment(base, words, count, out))
     }
 }

@@ -7,3 +7,4 @@ pub mod CounterLaws
 pub mod Refusals
 pub mod Promises
 pub mod KnownValues
+pub mod Determined

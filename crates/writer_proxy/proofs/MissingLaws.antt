@@ -26,7 +26,7 @@ use Rattle.proxy_record.proofs.RowLaws.{number-word, place-row}
 use Rattle.proxy_core.specs.Calls.{cap}
 use Rattle.proxy_core.proofs.NatLaws.{nat-top, nat-passed}
 use Rattle.proxy_core.proofs.StepLaws.{base-word}
-use Rattle.writer_proxy.specs.declared.missing.Listing.the-variants.{Refused, Listed}
+use Rattle.sequence_number.specs.Outcome.{refused, done}
 use Rattle.writer_proxy.specs.Queries.{has}
 use Rattle.writer_proxy.specs.Missing.{missing, missingOf, listed}
 use Rattle.writer_proxy.specs.Statements.{Ascending}
@@ -195,18 +195,18 @@ module _ (w : List ℕ) (g : Good w) (lo hi : ℕ) (out₀ : List ℤ) where
 
 -- `missing_seqnums`: its three answers
 module _ (start end : ℤ) (s : State) (out : List ℤ) where
-  pub listed-last : natOf end ≡ top → (Refused 4 ≡ listed start end s out .answer) × (out ≡ listed start end s out .output)
+  pub listed-last : natOf end ≡ top → (refused 4 ≡ listed start end s out .answer) × (out ≡ listed start end s out .output)
   unfolding listed
   listed-last e = rw (eq-eqb (natOf end) top e) (refl, refl)
 
-  pub listed-short : (natOf end ≡ top → ⊥) → length out < length (missingOf start end s) → (Refused 3 ≡ listed start end s out .answer) × (out ≡ listed start end s out .output)
+  pub listed-short : (natOf end ≡ top → ⊥) → length out < length (missingOf start end s) → (refused 3 ≡ listed start end s out .answer) × (out ≡ listed start end s out .output)
   unfolding listed
   listed-short e h = rw (ne-eqb (natOf end) top e, lt-ltb (length out) (length (missingOf start end s)) h) (refl, refl)
 
   pub listed-all : (r : ℕ) (o : List ℤ) → (natOf end ≡ top → ⊥) → length (missingOf start end s) ≤ length out → r ≡ length (missingOf start end s)
-      → o ≡ over (map pos (missingOf start end s)) out → (Listed r ≡ listed start end s out .answer) × (o ≡ listed start end s out .output)
+      → o ≡ over (map pos (missingOf start end s)) out → (done r ≡ listed start end s out .answer) × (o ≡ listed start end s out .output)
   unfolding listed
-  listed-all r o e h p q = rw (ne-eqb (natOf end) top e, le-ltb (length out) (length (missingOf start end s)) h) (ap Listed p, q)
+  listed-all r o e h p q = rw (ne-eqb (natOf end) top e, le-ltb (length out) (length (missingOf start end s)) h) (ap done p, q)
 
   pub missing-ends : (lo hi : ℕ) → lo ≡ max (s .base) (natOf start) → hi ≡ max lo (natOf end + 1) → missing lo (hi - lo) (s .tracked) ≡ missingOf start end s
   missing-ends lo hi e f =

@@ -5,7 +5,7 @@ use native.Mathlib.Omega.{arith}
 use mathlib.Core.Logic.{_⊎_, inl, inr, ⊎-elim, _↔_}
 use mathlib.Core.Path.{_≡_, refl, sym, ap, _∙_}
 use mathlib.Core.Bool.{Bool, true, false, cond}
-use mathlib.Core.Option.{none, some}
+use mathlib.Core.Option.{Option, none, some}
 use mathlib.Core.List.{List, [], map, List·Memᴰ}
 use lib.ListN.{length}
 use lib.Dec.{ltb, eqb}
@@ -16,33 +16,24 @@ use mir.Val.{SFits, ofZ, toZ}
 use borrow.Author.Tests.{lt-ltb, le-ltb, eq-eqb, ne-eqb}
 use Rattle.sequence_number.specs.Number.{top, isNumber, natOf}
 use Rattle.sequence_number.specs.Lent.{over}
+use Rattle.sequence_number.specs.Outcome.{refused, done, refusal}
 use Rattle.sequence_number.proofs.Split.{split, split-lt, split-eq}
-use Rattle.proxy_record.specs.Entries.{Entry, NotAvailable}
+use Rattle.proxy_record.specs.Entries.{Entry, Mark, NotAvailable}
 use Rattle.proxy_record.specs.State.{State, Ok, begun}
 use Rattle.proxy_record.specs.Record.{size, recordOf, stateOf}
 use Rattle.proxy_record.proofs.RecordLaws.{state-of}
-use Rattle.proxy_core.specs.declared.Report.{Report}
-use Rattle.proxy_core.specs.declared.Report.the-variants.{Refused}
-use Rattle.proxy_core.specs.Calls.{Reply, put, moveOn, discard, cap, ended, lost, receivedAt, received, irrelevantAt, irrelevant, putEach, rangeAt, irrelevantRange, upTo, Answered}
+use Rattle.proxy_core.specs.Calls.{put, moveOn, discard, cap, forced, ended, lost, receivedAt, received, irrelevantAt, irrelevant, putEach, rangeAt, irrelevantRange, upTo}
 use Rattle.proxy_core.proofs.CallsLaws.{ok-begun, ok-received, ok-irrelevant, range-at-above, ok-range, base-received, base-irrelevant, base-range}
-use Rattle.writer_proxy.specs.declared.counter.AckNackCounter.{AckNackCounter}
-use Rattle.writer_proxy.specs.declared.counter.HandedOut.{HandedOut}
-use Rattle.writer_proxy.specs.declared.missing.Listing.{Listing}
-use Rattle.writer_proxy.specs.declared.missing.Listing.the-variants.{Listed}
-use Rattle.writer_proxy.specs.declared.query.Status.{Status}
-use Rattle.writer_proxy.specs.declared.query.Last.{Last}
 use Rattle.writer_proxy.specs.SetUp.{setUp}
-use Rattle.writer_proxy.specs.Queries.{look, ignored, statusOf, lastOf}
+use Rattle.writer_proxy.specs.Queries.{look, given, ignored, statusOf, lastOf}
 use Rattle.writer_proxy.specs.Missing.{missing, lowest, missingOf, listed}
 use Rattle.writer_proxy.specs.Counter.{nextCount, fresh, handedOut}
 use Rattle.writer_proxy.specs.Statements.{Tracked, Ascending, NotTaken}
-use Rattle.writer_proxy.specs.Answers.{refusalOf, oldOf, newOf, listingRefusalOf, countOf, statusNumberOf, lastNumberOf, lastTimeOf}
 use Rattle.writer_proxy.proofs.TrackedLaws.{has-tracked, not-tracked, moved-past, moved-stops}
 use Rattle.writer_proxy.proofs.ShownLaws.{look-put, look-kept, look-each-out, look-each-in}
 use Rattle.writer_proxy.proofs.MissingLaws.{listed-all, missing-has, missing-ascends}
 use Rattle.writer_proxy.proofs.CounterLaws.{next-wraps}
-use Rattle.writer_proxy.proofs.Refusals.{not-taken, refused-unless, refused-if, unless-same, if-same, received-accepted, irrelevant-accepted, range-accepted, end-top, start-low, end-high, crossed, received-number-at, irrelevant-number-at, range-number-at, status-number}
-use Rattle.writer_proxy.specs.declared.missing.Listing.the-variants as Listing
+use Rattle.writer_proxy.proofs.Refusals.{not-taken, refused-unless, refused-if, unless-same, if-same, received-accepted, irrelevant-accepted, range-accepted, end-top, start-low, end-high, crossed, received-number-at, irrelevant-number-at, range-number-at}
 
 -- "their own rules hold, shown kept by every call": among them "Never more than 256 numbers are tracked after a call"
 pub set-up-keeps : Ok cap begun
@@ -136,13 +127,10 @@ module _ (start end : ℤ) (s : State) (o : Ok cap s) where
 
   -- given room and an end below 2^63 - 1, the list is written whole, its count is its length, and entries past it keep their values
   pub missing-listed : (out : List ℤ) → (end ≡ pos top → ⊥) → length (missingOf start end s) ≤ length out
-      → (listed start end s out .answer ≡ Listed (length (missingOf start end s))) × (listed start end s out .output ≡ over (map pos (missingOf start end s)) out)
+      → (listed start end s out .answer ≡ done (length (missingOf start end s))) × (listed start end s out .output ≡ over (map pos (missingOf start end s)) out)
   missing-listed out n h =
       let a = listed-all start end s out (length (missingOf start end s)) (over (map pos (missingOf start end s)) out) (λ e. n (end-top end .0 e)) h refl refl in
       (sym (a .0), sym (a .1))
-
-  pub missing-count-said : (out : List ℤ) → (end ≡ pos top → ⊥) → length (missingOf start end s) ≤ length out → countOf (listed start end s out .answer) ≡ length (missingOf start end s)
-  missing-count-said out n h = ap countOf (missing-listed out n h .0)
 
 -- "Else each is put not available, over what was there": a range above the base is its numbers put one by one, and then the cap
 pub range-is-puts : (a b : ℤ) (s : State) → ltZ b a ≡ false → s .base < natOf a → irrelevantRange a b s ≡ ended (putEach (natOf a) (natOf b - natOf a) s)
@@ -156,120 +144,120 @@ puts-one-by-one a k s = (refl, refl)
 -- Refusals: "Given exactly when", and then state and output are untouched
 
 -- the refusal number of each call's answer, 0 where it is accepted
-pub received-number : (n : ℤ) (t : ℕ) (s : State) → refusalOf (received n t s .report) ≡ cond (isNumber n) 0 4
+pub received-number : (n : ℤ) (t : ℕ) (s : State) → refusal (received n t s .report) ≡ cond (isNumber n) 0 4
 unfolding received
 received-number n t s = split (isNumber n) (λ e. rw e (received-number-at (natOf n) t s)) (λ e. rw e)
 
-pub irrelevant-number : (n : ℤ) (s : State) → refusalOf (irrelevant n s .report) ≡ cond (isNumber n) 0 4
+pub irrelevant-number : (n : ℤ) (s : State) → refusal (irrelevant n s .report) ≡ cond (isNumber n) 0 4
 unfolding irrelevant
 irrelevant-number n s = split (isNumber n) (λ e. rw e (irrelevant-number-at (natOf n) s)) (λ e. rw e)
 
-pub range-number : (a b : ℤ) (s : State) → refusalOf (irrelevantRange a b s .report) ≡ cond (ltZ b a) 5 0
+pub range-number : (a b : ℤ) (s : State) → refusal (irrelevantRange a b s .report) ≡ cond (ltZ b a) 5 0
 unfolding irrelevantRange
 range-number a b s = split (ltZ b a) (λ e. rw e) (λ e. rw e (range-number-at (natOf a) (natOf b) s))
 
-pub up-to-number : (n : ℤ) (s : State) → refusalOf (upTo n s .report) ≡ cond (ltZ n (pos 0)) 5 0
+pub up-to-number : (n : ℤ) (s : State) → refusal (upTo n s .report) ≡ cond (ltZ n (pos 0)) 5 0
 up-to-number n = range-number (pos 0) n
 
 pub missing-number : (start end : ℤ) (s : State) (out : List ℤ)
-    → listingRefusalOf (listed start end s out .answer) ≡ cond (eqb (natOf end) top) 4 (cond (ltb (length out) (length (missingOf start end s))) 3 0)
+    → refusal (listed start end s out .answer) ≡ cond (eqb (natOf end) top) 4 (cond (ltb (length out) (length (missingOf start end s))) 3 0)
 unfolding listed
 missing-number start end s out =
     split (eqb (natOf end) top)
     (λ e. rw e)
     (λ e. rw e (split (ltb (length out) (length (missingOf start end s))) (λ a. rw a) (λ a. rw a)))
 
-pub set-up-number : (w : List ℕ) → refusalOf (setUp w .report) ≡ cond (ltb (length w) size) 3 0
+pub set-up-number : (w : List ℕ) → refusal (setUp w .report) ≡ cond (ltb (length w) size) 3 0
 unfolding setUp
 set-up-number w = split (ltb (length w) size) (λ e. rw e) (λ e. rw e)
 
 -- "The answer reports a forced step with old and new base"
-pub forced-said : (s : State) → cap < length (s .tracked) → (oldOf (ended s .report) ≡ s .base) × (newOf (ended s .report) ≡ ended s .state .base)
+pub forced-said : (s : State) → cap < length (s .tracked) → ended s .report ≡ done (forced (s .base) (ended s .state .base))
 unfolding ended
-forced-said s h = rw (lt-ltb cap (length (s .tracked)) h) (refl, refl)
+forced-said s h = rw (lt-ltb cap (length (s .tracked)) h)
 
 -- "The last time is absent while the last number is 0"
-pub last-said : (s : State) → (lastNumberOf (lastOf s) ≡ s .last) × ((s .last ≡ 0 → ⊥) → lastTimeOf (lastOf s) ≡ s .time)
+pub last-said : (s : State) → (s .last ≡ 0 → lastOf s ≡ none) × ((s .last ≡ 0 → ⊥) → lastOf s ≡ some (s .last, s .time))
 unfolding lastOf
-last-said s =
-    ⊎-elim
-    (λ e. rw (eq-eqb (s .last) 0 e) (sym e, λ h. absurd (h e)))
-    (λ e. rw (ne-eqb (s .last) 0 e) (refl, λ h. refl))
-    (split-eq (s .last) 0)
+last-said s = (λ e. rw (eq-eqb (s .last) 0 e), λ e. rw (ne-eqb (s .last) 0 e))
 
--- a status is 0 exactly for a number that is not tracked
-pub status-said : (n : ℕ) (s : State) → (statusNumberOf (statusOf (pos n) s) ≡ 0) ↔ (Tracked n (s .tracked) → ⊥)
+-- there is no status exactly of a number that is not tracked
+not-given : (o : Option Mark) → (o ≡ none) ↔ (given o ≡ false)
+not-given none = (λ h. refl, λ h. refl)
+not-given (some m) = (λ h. ap given h, λ h. let z : _≡_ {A = ℕ} 0 1 = cc in absurd (omega arith))
+
+pub status-said : (n : ℕ) (s : State) → (statusOf (pos n) s ≡ none) ↔ (Tracked n (s .tracked) → ⊥)
 status-said n s =
-    let e = status-number (look n (s .tracked)) in
+    let e = not-given (look n (s .tracked)) in
     (λ h. not-tracked n (s .tracked) .0 (e .0 h), λ h. e .1 (not-tracked n (s .tracked) .1 h))
 
 -- 4: "number below 1 or equal to 2^63 - 1 in received, one irrelevant"
 module _ (n : ℤ) (f : SFits w64 n) (s : State) where
-  pub received-refused : (t k : ℕ) → (received n t s .report ≡ Refused k) ↔ ((k ≡ 4) × NotTaken n)
+  pub received-refused : (t k : ℕ) → (received n t s .report ≡ refused k) ↔ ((k ≡ 4) × NotTaken n)
   unfolding received
   received-refused t k =
       let e = refused-unless 4 s (receivedAt (natOf n) t s) (received-accepted (natOf n) t s) (isNumber n) k in
       (λ h. (e .0 h .1, not-taken n f .0 (e .0 h .0)), λ h. e .1 (not-taken n f .1 (h .1), h .0))
 
-  pub irrelevant-refused : (k : ℕ) → (irrelevant n s .report ≡ Refused k) ↔ ((k ≡ 4) × NotTaken n)
+  pub irrelevant-refused : (k : ℕ) → (irrelevant n s .report ≡ refused k) ↔ ((k ≡ 4) × NotTaken n)
   unfolding irrelevant
   irrelevant-refused k =
       let e = refused-unless 4 s (irrelevantAt (natOf n) s) (irrelevant-accepted (natOf n) s) (isNumber n) k in
       (λ h. (e .0 h .1, not-taken n f .0 (e .0 h .0)), λ h. e .1 (not-taken n f .1 (h .1), h .0))
 
-  pub received-refused-same : (t k : ℕ) → received n t s .report ≡ Refused k → received n t s .state ≡ s
+  pub received-refused-same : (t k : ℕ) → received n t s .report ≡ refused k → received n t s .state ≡ s
   unfolding received
   received-refused-same t k = unless-same 4 s (receivedAt (natOf n) t s) (received-accepted (natOf n) t s) (isNumber n) k
 
-  pub irrelevant-refused-same : (k : ℕ) → irrelevant n s .report ≡ Refused k → irrelevant n s .state ≡ s
+  pub irrelevant-refused-same : (k : ℕ) → irrelevant n s .report ≡ refused k → irrelevant n s .state ≡ s
   unfolding irrelevant
   irrelevant-refused-same k = unless-same 4 s (irrelevantAt (natOf n) s) (irrelevant-accepted (natOf n) s) (isNumber n) k
 
 -- 5: "range with a > b"
-pub range-refused-only : (a b : ℤ) (s : State) (k : ℕ) → (irrelevantRange a b s .report ≡ Refused k) ↔ ((ltZ b a ≡ true) × (k ≡ 5))
+pub range-refused-only : (a b : ℤ) (s : State) (k : ℕ) → (irrelevantRange a b s .report ≡ refused k) ↔ ((ltZ b a ≡ true) × (k ≡ 5))
 unfolding irrelevantRange
 range-refused-only a b s k = refused-if 5 s (rangeAt (natOf a) (natOf b) s) (range-accepted (natOf a) (natOf b) s) (ltZ b a) k
 
-pub range-refused-same : (a b : ℤ) (s : State) (k : ℕ) → irrelevantRange a b s .report ≡ Refused k → irrelevantRange a b s .state ≡ s
+pub range-refused-same : (a b : ℤ) (s : State) (k : ℕ) → irrelevantRange a b s .report ≡ refused k → irrelevantRange a b s .state ≡ s
 unfolding irrelevantRange
 range-refused-same a b s k = if-same 5 s (rangeAt (natOf a) (natOf b) s) (range-accepted (natOf a) (natOf b) s) (ltZ b a) k
 
-pub up-to-refused : (n : ℤ) (s : State) (k : ℕ) → (upTo n s .report ≡ Refused k) ↔ ((ltZ n (pos 0) ≡ true) × (k ≡ 5))
+pub up-to-refused : (n : ℤ) (s : State) (k : ℕ) → (upTo n s .report ≡ refused k) ↔ ((ltZ n (pos 0) ≡ true) × (k ≡ 5))
 up-to-refused n = range-refused-only (pos 0) n
 
-pub up-to-refused-same : (n : ℤ) (s : State) (k : ℕ) → upTo n s .report ≡ Refused k → upTo n s .state ≡ s
+pub up-to-refused-same : (n : ℤ) (s : State) (k : ℕ) → upTo n s .report ≡ refused k → upTo n s .state ≡ s
 up-to-refused-same n = range-refused-same (pos 0) n
 
 -- "Missing numbers: 4, then 3"
 not-both : (a b : ℕ) → a < b → b ≤ a → ⊥
 not-both a b h k = omega arith
 
-not-refused : (n k : ℕ) → Listed n ≡ Listing.Refused k → ⊥
+not-refused : (n k : ℕ) → done n ≡ refused k → ⊥
 not-refused n k e = let z : _≡_ {A = ℕ} 0 1 = cc in omega arith
 
 module _ (start end : ℤ) (s : State) (out : List ℤ) where
   pub missing-refused : (k : ℕ)
-      → (listed start end s out .answer ≡ Listing.Refused k)
+      → (listed start end s out .answer ≡ refused k)
       ↔ (((end ≡ pos top) × (k ≡ 4)) ⊎ ((end ≡ pos top → ⊥) × (length out < length (missingOf start end s)) × (k ≡ 3)))
   unfolding listed
   missing-refused k =
       ⊎-elim
       (λ e.
       rw (eq-eqb (natOf end) top e)
-      (λ h. inl (end-top end .0 e, cc), ⊎-elim (λ h. ap Listing.Refused (sym (h .1))) (λ h. absurd (h .0 (end-top end .0 e)))))
+      (λ h. inl (end-top end .0 e, cc), ⊎-elim (λ h. ap refused (sym (h .1))) (λ h. absurd (h .0 (end-top end .0 e)))))
       (λ e.
       let n : end ≡ pos top → ⊥ = λ h. e (end-top end .1 h) in
       ⊎-elim
       (λ a.
       rw (ne-eqb (natOf end) top e, lt-ltb (length out) (length (missingOf start end s)) a)
-      (λ h. inr (n, a, cc), ⊎-elim (λ h. absurd (n (h .0))) (λ h. ap Listing.Refused (sym (h .2)))))
+      (λ h. inr (n, a, cc), ⊎-elim (λ h. absurd (n (h .0))) (λ h. ap refused (sym (h .2)))))
       (λ a.
       rw (ne-eqb (natOf end) top e, le-ltb (length out) (length (missingOf start end s)) a)
       (λ h. absurd (not-refused (length (missingOf start end s)) k h), ⊎-elim (λ h. absurd (n (h .0))) (λ h. absurd (not-both (length out) (length (missingOf start end s)) (h .1) a))))
       (split-lt (length out) (length (missingOf start end s))))
       (split-eq (natOf end) top)
 
-  pub missing-refused-same : (k : ℕ) → listed start end s out .answer ≡ Listing.Refused k → listed start end s out .output ≡ out
+  pub missing-refused-same : (k : ℕ) → listed start end s out .answer ≡ refused k → listed start end s out .output ≡ out
   unfolding listed
   missing-refused-same k =
       split (eqb (natOf end) top)
@@ -281,15 +269,15 @@ module _ (start end : ℤ) (s : State) (out : List ℤ) where
       (λ a. rw a (λ h. let z : _≡_ {A = ℕ} 0 1 = cc in absurd (omega arith)))))
 
 -- 3: "lent output shorter than the answer", at set-up
-pub set-up-refused : (w : List ℕ) (k : ℕ) → (setUp w .report ≡ Refused k) ↔ ((length w < size) × (k ≡ 3))
+pub set-up-refused : (w : List ℕ) (k : ℕ) → (setUp w .report ≡ refused k) ↔ ((length w < size) × (k ≡ 3))
 unfolding setUp
 set-up-refused w k =
     ⊎-elim
-    (λ a. rw (lt-ltb (length w) size a) (λ h. (a, cc), λ h. ap Refused (sym (h .1))))
+    (λ a. rw (lt-ltb (length w) size a) (λ h. (a, cc), λ h. ap refused (sym (h .1))))
     (λ a. rw (le-ltb (length w) size a) (λ h. let z : _≡_ {A = ℕ} 0 1 = cc in absurd (omega arith), λ h. absurd (omega (arith, h .0))))
     (split-lt (length w) size)
 
-pub set-up-refused-same : (w : List ℕ) (k : ℕ) → setUp w .report ≡ Refused k → setUp w .words ≡ w
+pub set-up-refused-same : (w : List ℕ) (k : ℕ) → setUp w .report ≡ refused k → setUp w .words ≡ w
 unfolding setUp
 set-up-refused-same w k =
     split (ltb (length w) size)
@@ -309,52 +297,3 @@ count-at-last = refl
 -- "the i32 acknack count steps by wrapping add on purpose": 1 more, modulo 2^32, read as signed
 pub count-wraps : (n : ℤ) → SFits w32 n → nextCount n ≡ toZ w32 ((ofZ w32 n + 1) % 4294967296)
 count-wraps = next-wraps
-
--- Determination: two answers that a call's promise allows are equal, with the lent words and entries. w is what was lent.
-same-of : {A : Type 0} {x y : A} (z : A) → x ≡ z → y ≡ z → x ≡ y
-same-of z p q = p ∙ sym q
-
-answered-same : (x : Reply) {r r′ : Report} {o o′ : List ℕ} → Answered r o x → Answered r′ o′ x → (r ≡ r′) × (o ≡ o′)
-answered-same x a b = (same-of (x .report) (a .0) (b .0), same-of (recordOf (x .state)) (a .1) (b .1))
-
-module _ (w : List ℕ) {r r′ : Report} {o o′ : List ℕ} where
-  pub set-up-determined : (r ≡ setUp w .report) × (o ≡ setUp w .words) → (r′ ≡ setUp w .report) × (o′ ≡ setUp w .words) → (r ≡ r′) × (o ≡ o′)
-  set-up-determined a b = (same-of (setUp w .report) (a .0) (b .0), same-of (setUp w .words) (a .1) (b .1))
-
-  pub received-determined : (n : ℤ) (t : ℕ) → Answered r o (received n t (stateOf w)) → Answered r′ o′ (received n t (stateOf w)) → (r ≡ r′) × (o ≡ o′)
-  received-determined n t = answered-same (received n t (stateOf w))
-
-  pub irrelevant-determined : (n : ℤ) → Answered r o (irrelevant n (stateOf w)) → Answered r′ o′ (irrelevant n (stateOf w)) → (r ≡ r′) × (o ≡ o′)
-  irrelevant-determined n = answered-same (irrelevant n (stateOf w))
-
-  pub range-determined : (a b : ℤ) → Answered r o (irrelevantRange a b (stateOf w)) → Answered r′ o′ (irrelevantRange a b (stateOf w)) → (r ≡ r′) × (o ≡ o′)
-  range-determined a b = answered-same (irrelevantRange a b (stateOf w))
-
-  pub up-to-determined : (n : ℤ) → Answered r o (upTo n (stateOf w)) → Answered r′ o′ (upTo n (stateOf w)) → (r ≡ r′) × (o ≡ o′)
-  up-to-determined n = answered-same (upTo n (stateOf w))
-
-pub ackable-determined : (w : List ℕ) {r r′ : ℕ} → r ≡ stateOf w .base → r′ ≡ stateOf w .base → r ≡ r′
-ackable-determined w = same-of (stateOf w .base)
-
-pub last-determined : (w : List ℕ) {r r′ : Last} → r ≡ lastOf (stateOf w) → r′ ≡ lastOf (stateOf w) → r ≡ r′
-last-determined w = same-of (lastOf (stateOf w))
-
-pub status-determined : (n : ℤ) (w : List ℕ) {r r′ : Status} → r ≡ statusOf n (stateOf w) → r′ ≡ statusOf n (stateOf w) → r ≡ r′
-status-determined n w = same-of (statusOf n (stateOf w))
-
-pub ignore-determined : (n : ℤ) (w : List ℕ) {r r′ : Bool} → r ≡ ignored n (stateOf w) → r′ ≡ ignored n (stateOf w) → r ≡ r′
-ignore-determined n w = same-of (ignored n (stateOf w))
-
-pub missing-determined : (start end : ℤ) (w : List ℕ) (out : List ℤ) {r r′ : Listing} {o o′ : List ℤ}
-    → (r ≡ listed start end (stateOf w) out .answer) × (o ≡ listed start end (stateOf w) out .output)
-    → (r′ ≡ listed start end (stateOf w) out .answer) × (o′ ≡ listed start end (stateOf w) out .output) → (r ≡ r′) × (o ≡ o′)
-missing-determined start end w out a b = (same-of (listed start end (stateOf w) out .answer) (a .0) (b .0), same-of (listed start end (stateOf w) out .output) (a .1) (b .1))
-
-pub count-determined : (c : AckNackCounter) {r r′ : HandedOut} → r ≡ handedOut c → r′ ≡ handedOut c → r ≡ r′
-count-determined c = same-of (handedOut c)
-
-pub count-in-place-determined : (c : AckNackCounter) {r r′ : ℤ} {o o′ : AckNackCounter} → (r ≡ c .count) × (o ≡ handedOut c .counter) → (r′ ≡ c .count) × (o′ ≡ handedOut c .counter) → (r ≡ r′) × (o ≡ o′)
-count-in-place-determined c a b = (same-of (c .count) (a .0) (b .0), same-of (handedOut c .counter) (a .1) (b .1))
-
-pub count-plain-determined : (n : ℤ) {r r′ o o′ : ℤ} → (r ≡ n) × (o ≡ nextCount n) → (r′ ≡ n) × (o′ ≡ nextCount n) → (r ≡ r′) × (o ≡ o′)
-count-plain-determined n a b = (same-of n (a .0) (b .0), same-of (nextCount n) (a .1) (b .1))

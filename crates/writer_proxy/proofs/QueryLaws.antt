@@ -21,9 +21,7 @@ use Rattle.proxy_record.proofs.RecordLaws.{mark-same}
 use Rattle.proxy_record.proofs.RowLaws.{kind-word, time-word, number-word, place-row}
 use Rattle.proxy_core.specs.Calls.{cap}
 use Rattle.writer_proxy.specs.declared.query.Status.{Status}
-use Rattle.writer_proxy.specs.declared.query.Last.the-variants.{Nothing, Change}
 use Rattle.writer_proxy.specs.Queries.{look, given, has, ignored, shown, statusOf, lastOf}
-use Rattle.writer_proxy.specs.declared.query.Status.the-variants as Shown
 
 pub look-low : (lo hi n : ℕ) (l : List Entry) → Rising lo hi l → n < lo → look n l ≡ none
 unfolding look
@@ -86,14 +84,14 @@ module _ (w : List ℕ) (g : Good w) (n at : ℕ) (p : Placed n (getD w 1 0) at 
       (rank-next (stateOf w .base) top n (tracked w) (g .ok .rising))
 
   pub status-gone : (x k : ℕ) → at < getD w 1 0 → x ≡ getD (take 257 (drop 4 w)) at 0 → x ≡ n → k ≡ getD (take 257 (drop 261 w)) at 0 → k ≡ 0
-      → Shown.NotAvailable ≡ shown (look n (tracked w))
+      → some NotAvailable ≡ look n (tracked w)
   status-gone x k h e f i z = rw (found x h e f, ← i, z)
 
   pub status-received : (x k t : ℕ) → at < getD w 1 0 → x ≡ getD (take 257 (drop 4 w)) at 0 → x ≡ n → k ≡ getD (take 257 (drop 261 w)) at 0 → (k ≡ 0 → ⊥)
-      → t ≡ getD (take 257 (drop 518 w)) at 0 → Shown.Received t ≡ shown (look n (tracked w))
+      → t ≡ getD (take 257 (drop 518 w)) at 0 → some (Received t) ≡ look n (tracked w)
   status-received x k t h e f i z j = rw (found x h e f, ← i, ← j, mark-received k t z)
 
-  pub status-none : (at < getD w 1 0 → getD (take 257 (drop 4 w)) at 0 ≡ n → ⊥) → Shown.Untracked ≡ shown (look n (tracked w))
+  pub status-none : (at < getD w 1 0 → getD (take 257 (drop 4 w)) at 0 ≡ n → ⊥) → none ≡ look n (tracked w)
   status-none h =
       ⊎-elim
       (λ v.
@@ -103,7 +101,7 @@ module _ (w : List ℕ) (g : Good w) (n at : ℕ) (p : Placed n (getD w 1 0) at 
       (rank-next (stateOf w .base) top n (tracked w) (g .ok .rising))
 
 -- negative numbers: not tracked, and below every base
-pub status-nat : (m : ℕ) (n : ℤ) (s : State) → Ok m s → shown (look (natOf n) (s .tracked)) ≡ statusOf n s
+pub status-nat : (m : ℕ) (n : ℤ) (s : State) → Ok m s → look (natOf n) (s .tracked) ≡ statusOf n s
 status-nat m (pos n) s o = refl
 status-nat m (negsuc n) s o = rw (look-low (s .base) top 0 (s .tracked) (o .rising) (o .low))
 
@@ -115,33 +113,19 @@ pub ignored-else : (m : ℕ) (n : ℤ) (s : State) → Ok m s → s .base ≤ na
 ignored-else m (pos n) s o h = rw (le-ltb n (s .base) h)
 ignored-else m (negsuc n) s o h = absurd (omega (arith, o .low))
 
--- a shown status tells whether a number is tracked
-abbrev pub isShown : Status → Bool
-isShown Shown.Untracked = false
-isShown Shown.NotAvailable = true
-isShown (Shown.Received t) = true
-
-shown-has : (o : Option Mark) → isShown (shown o) ≡ given o
-shown-has none = refl
-shown-has (some NotAvailable) = refl
-shown-has (some (Received t)) = refl
-
-has-shown : (n : ℕ) (l : List Entry) (r : Status) → r ≡ shown (look n l) → isShown r ≡ has n l
-has-shown n l r e = ap isShown e ∙ shown-has (look n l)
-
 -- the other queries
-pub last-none : (s : State) (n : ℕ) → n ≡ s .last → n ≡ 0 → Nothing ≡ lastOf s
+pub last-none : (s : State) (n : ℕ) → n ≡ s .last → n ≡ 0 → none ≡ lastOf s
 unfolding lastOf
 last-none s n e h = rw (eq-eqb (s .last) 0 (sym e ∙ h))
 
-pub last-some : (s : State) (n t : ℕ) → n ≡ s .last → t ≡ s .time → (n ≡ 0 → ⊥) → Change n t ≡ lastOf s
+pub last-some : (s : State) (n t : ℕ) → n ≡ s .last → t ≡ s .time → (n ≡ 0 → ⊥) → some (n, t) ≡ lastOf s
 unfolding lastOf
 last-some s n t e f h =
     let k : s .last ≡ 0 → ⊥ = λ z. h (e ∙ z) in
     rw (ne-eqb (s .last) 0 k, e, f)
 
 -- `should_ignore_change`, past the base: r is what `status_of` answered
-pub ignored-by : (m : ℕ) (n : ℤ) (k : ℕ) (s : State) (r : Status) (b : Bool) → Ok m s → k ≡ natOf n → s .base ≤ k → r ≡ shown (look k (s .tracked)) → isShown r ≡ b
-    → b ≡ ignored n s
+pub ignored-by : (m : ℕ) (n : ℤ) (k : ℕ) (s : State) (r : Status) (b : Bool) → Ok m s → k ≡ natOf n → s .base ≤ k → shown r ≡ look k (s .tracked)
+    → given (shown r) ≡ b → b ≡ ignored n s
 ignored-by m n k s r b o e h q z =
-    sym z ∙ has-shown k (s .tracked) r q ∙ ap (λ (i : ℕ). has i (s .tracked)) e ∙ ignored-else m n s o (omega arith)
+    sym z ∙ ap given q ∙ ap (λ (i : ℕ). has i (s .tracked)) e ∙ ignored-else m n s o (omega arith)

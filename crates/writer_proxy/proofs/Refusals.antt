@@ -4,7 +4,6 @@ use native.Mathlib.Omega.{arith}
 use mathlib.Core.Logic.{inl, inr, ⊎-elim, _↔_}
 use mathlib.Core.Path.{_≡_, refl, sym, ap}
 use mathlib.Core.Bool.{Bool, true, false, cond}
-use mathlib.Core.Option.{Option, none, some}
 use lib.ListN.{length}
 use lib.Dec.{ltb, leb}
 use lib.IntN.{ℤ, pos, negsuc}
@@ -13,15 +12,12 @@ use mir.Syntax.{w64}
 use mir.Val.{SFits}
 use borrow.Author.Tests.{lt-ltb, le-ltb, ltb-true, le-leb, leb-true}
 use Rattle.sequence_number.specs.Number.{top, isNumber, natOf}
+use Rattle.sequence_number.specs.Outcome.{refused, refusal}
 use Rattle.sequence_number.proofs.Split.{split, split-lt}
-use Rattle.proxy_record.specs.Entries.{Mark, NotAvailable, Received}
 use Rattle.proxy_record.specs.State.{State}
-use Rattle.proxy_core.specs.declared.Report.the-variants.{Refused}
-use Rattle.proxy_core.specs.Calls.{Reply, noted, put, settled, cap, ended, refused, got, lost, receivedAt, irrelevantAt, skipped, putEach, rangeAt}
+use Rattle.proxy_core.specs.Calls.{Reply, noted, put, settled, cap, ended, refuses, got, lost, receivedAt, irrelevantAt, skipped, putEach, rangeAt}
 use Rattle.proxy_core.proofs.CallsLaws.{ended-accepted}
-use Rattle.writer_proxy.specs.Queries.{given, shown}
 use Rattle.writer_proxy.specs.Statements.{NotTaken}
-use Rattle.writer_proxy.specs.Answers.{refusalOf, statusNumberOf}
 
 -- row 4 over an i64
 pub not-taken : (n : ℤ) → SFits w64 n → (isNumber n ≡ false) ↔ NotTaken n
@@ -37,33 +33,33 @@ not-taken (pos n) f =
     (split-lt 0 n)
 
 -- a call that is refused by one test, and goes on to the cap otherwise
-module _ (j : ℕ) (s : State) (x : Reply) (h : (k : ℕ) → x .report ≡ Refused k → ⊥) where
-  pub refused-unless : (b : Bool) (k : ℕ) → (cond b x (refused j s) .report ≡ Refused k) ↔ ((b ≡ false) × (k ≡ j))
+module _ (j : ℕ) (s : State) (x : Reply) (h : (k : ℕ) → x .report ≡ refused k → ⊥) where
+  pub refused-unless : (b : Bool) (k : ℕ) → (cond b x (refuses j s) .report ≡ refused k) ↔ ((b ≡ false) × (k ≡ j))
   refused-unless true k = (λ e. absurd (h k e), λ e. let z : _≡_ {A = ℕ} 0 1 = (let t = e .0 in cc) in absurd (omega arith))
-  refused-unless false k = (λ e. (refl, cc), λ e. ap Refused (sym (e .1)))
+  refused-unless false k = (λ e. (refl, cc), λ e. ap refused (sym (e .1)))
 
-  pub refused-if : (b : Bool) (k : ℕ) → (cond b (refused j s) x .report ≡ Refused k) ↔ ((b ≡ true) × (k ≡ j))
+  pub refused-if : (b : Bool) (k : ℕ) → (cond b (refuses j s) x .report ≡ refused k) ↔ ((b ≡ true) × (k ≡ j))
   refused-if false k = (λ e. absurd (h k e), λ e. let z : _≡_ {A = ℕ} 0 1 = (let t = e .0 in cc) in absurd (omega arith))
-  refused-if true k = (λ e. (refl, cc), λ e. ap Refused (sym (e .1)))
+  refused-if true k = (λ e. (refl, cc), λ e. ap refused (sym (e .1)))
 
   -- and then nothing changes
-  pub unless-same : (b : Bool) (k : ℕ) → cond b x (refused j s) .report ≡ Refused k → cond b x (refused j s) .state ≡ s
+  pub unless-same : (b : Bool) (k : ℕ) → cond b x (refuses j s) .report ≡ refused k → cond b x (refuses j s) .state ≡ s
   unless-same true k e = absurd (h k e)
   unless-same false k e = refl
 
-  pub if-same : (b : Bool) (k : ℕ) → cond b (refused j s) x .report ≡ Refused k → cond b (refused j s) x .state ≡ s
+  pub if-same : (b : Bool) (k : ℕ) → cond b (refuses j s) x .report ≡ refused k → cond b (refuses j s) x .state ≡ s
   if-same false k e = absurd (h k e)
   if-same true k e = refl
 
-pub received-accepted : (n t : ℕ) (s : State) (k : ℕ) → receivedAt n t s .report ≡ Refused k → ⊥
+pub received-accepted : (n t : ℕ) (s : State) (k : ℕ) → receivedAt n t s .report ≡ refused k → ⊥
 unfolding receivedAt
 received-accepted n t s k = ended-accepted (settled n (put (got n t) (noted n t s))) k
 
-pub irrelevant-accepted : (n : ℕ) (s : State) (k : ℕ) → irrelevantAt n s .report ≡ Refused k → ⊥
+pub irrelevant-accepted : (n : ℕ) (s : State) (k : ℕ) → irrelevantAt n s .report ≡ refused k → ⊥
 unfolding irrelevantAt
 irrelevant-accepted n s k = ended-accepted (settled n (cond (ltb n (s .base)) s (put (lost n) s))) k
 
-pub range-accepted : (a b : ℕ) (s : State) (k : ℕ) → rangeAt a b s .report ≡ Refused k → ⊥
+pub range-accepted : (a b : ℕ) (s : State) (k : ℕ) → rangeAt a b s .report ≡ refused k → ⊥
 unfolding rangeAt
 range-accepted a b s k = ended-accepted (cond (leb a (s .base)) (skipped a b s) (putEach a (b - a) s)) k
 
@@ -87,24 +83,18 @@ crossed (negsuc a) (pos b) m h e = let z : _≡_ {A = ℕ} 0 1 = cc in absurd (o
 crossed a (negsuc b) m h e = omega arith
 
 -- the number that document 01 gives
-ended-number : (s : State) → refusalOf (ended s .report) ≡ 0
+ended-number : (s : State) → refusal (ended s .report) ≡ 0
 unfolding ended
 ended-number s = split (ltb cap (length (s .tracked))) (λ e. rw e) (λ e. rw e)
 
-pub received-number-at : (n t : ℕ) (s : State) → refusalOf (receivedAt n t s .report) ≡ 0
+pub received-number-at : (n t : ℕ) (s : State) → refusal (receivedAt n t s .report) ≡ 0
 unfolding receivedAt
 received-number-at n t s = ended-number (settled n (put (got n t) (noted n t s)))
 
-pub irrelevant-number-at : (n : ℕ) (s : State) → refusalOf (irrelevantAt n s .report) ≡ 0
+pub irrelevant-number-at : (n : ℕ) (s : State) → refusal (irrelevantAt n s .report) ≡ 0
 unfolding irrelevantAt
 irrelevant-number-at n s = ended-number (settled n (cond (ltb n (s .base)) s (put (lost n) s)))
 
-pub range-number-at : (a b : ℕ) (s : State) → refusalOf (rangeAt a b s .report) ≡ 0
+pub range-number-at : (a b : ℕ) (s : State) → refusal (rangeAt a b s .report) ≡ 0
 unfolding rangeAt
 range-number-at a b s = ended-number (cond (leb a (s .base)) (skipped a b s) (putEach a (b - a) s))
-
--- a status's number
-pub status-number : (o : Option Mark) → (statusNumberOf (shown o) ≡ 0) ↔ (given o ≡ false)
-status-number none = (λ h. refl, λ h. refl)
-status-number (some NotAvailable) = (λ h. absurd (omega arith), λ h. let z : _≡_ {A = ℕ} 0 1 = cc in absurd (omega arith))
-status-number (some (Received t)) = (λ h. absurd (omega arith), λ h. let z : _≡_ {A = ℕ} 0 1 = cc in absurd (omega arith))

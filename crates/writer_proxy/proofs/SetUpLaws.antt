@@ -12,7 +12,8 @@ use Rattle.proxy_record.specs.Record.{size, column, layout, recordOf, Good}
 use Rattle.proxy_record.proofs.ColumnLaws.{zeros-append}
 use Rattle.proxy_record.proofs.PartLaws.{laid-length}
 use Rattle.proxy_record.proofs.RecordLaws.{kept-of}
-use Rattle.proxy_core.specs.declared.Report.the-variants.{Done, Refused}
+use Rattle.sequence_number.specs.Outcome.{refused, done}
+use Rattle.proxy_core.specs.Calls.{unforced}
 use Rattle.proxy_core.proofs.CallsLaws.{ok-begun}
 use Rattle.proxy_core.proofs.StepLaws.{good-of}
 use Rattle.writer_proxy.specs.SetUp.{setUp}
@@ -29,11 +30,11 @@ begun-words : (w u : List ℕ) → u ≡ take 0 w ++ (zeros 775 ++ drop (0 + 775
 unfolding recordOf layout column
 begun-words w u e = rw (e, zeros-all, append-assoc, append-assoc) refl
 
-pub set-up-short : (w : List ℕ) → length w < size → (Refused 3 ≡ setUp w .report) × (w ≡ setUp w .words)
+pub set-up-short : (w : List ℕ) → length w < size → (refused 3 ≡ setUp w .report) × (w ≡ setUp w .words)
 unfolding setUp
 set-up-short w h = rw (lt-ltb (length w) size h) (refl, refl)
 
-pub set-up-done : (w u : List ℕ) → size ≤ length w → u ≡ take 0 w ++ (zeros 775 ++ drop (0 + 775) w) → (Done ≡ setUp w .report) × (set u 0 1 ≡ setUp w .words)
+pub set-up-done : (w u : List ℕ) → size ≤ length w → u ≡ take 0 w ++ (zeros 775 ++ drop (0 + 775) w) → (done unforced ≡ setUp w .report) × (set u 0 1 ≡ setUp w .words)
 unfolding setUp
 set-up-done w u h e = rw (le-ltb (length w) size h, length-begun) (refl, begun-words w u e)
 

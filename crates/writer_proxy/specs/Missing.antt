@@ -7,6 +7,7 @@ use lib.Dec.{ltb, eqb}
 use lib.IntN.{ℤ, pos}
 use Rattle.sequence_number.specs.Number.{top, natOf}
 use Rattle.sequence_number.specs.Lent.{over}
+use Rattle.sequence_number.specs.Outcome.{Outcome, refused, done}
 use Rattle.proxy_record.specs.Entries.{Entry}
 use Rattle.proxy_record.specs.State.{State}
 use Rattle.writer_proxy.specs.Queries.{has}
@@ -26,14 +27,19 @@ lowest start s = max (s .base) (natOf start)
 abbrev pub missingOf : ℤ → ℤ → State → List ℕ
 missingOf start end s = missing (lowest start s) (suc (natOf end) - lowest start s) (s .tracked)
 
+-- the paper's number and values for the answer
+abbrev pub listing : Listing → Outcome ℕ
+listing (Refused k) = refused k
+listing (Listed n) = done n
+
 -- the answer, and the lent list after the call
-pub record Outcome : Type 0 where
-  pub answer : Listing
+pub record After : Type 0 where
+  pub answer : Outcome ℕ
   pub output : List ℤ
 
 -- "Missing numbers: 4, then 3": row 4 "heartbeat end 2^63 - 1", row 3 "lent output shorter than the answer"
-unfoldable pub listed : ℤ → ℤ → State → List ℤ → Outcome
+unfoldable pub listed : ℤ → ℤ → State → List ℤ → After
 listed start end s out =
-    cond (eqb (natOf end) top) (record { answer = Refused 4; output = out })
-    (cond (ltb (length out) (length (missingOf start end s))) (record { answer = Refused 3; output = out })
-    (record { answer = Listed (length (missingOf start end s)); output = over (map pos (missingOf start end s)) out }))
+    cond (eqb (natOf end) top) (record { answer = refused 4; output = out })
+    (cond (ltb (length out) (length (missingOf start end s))) (record { answer = refused 3; output = out })
+    (record { answer = done (length (missingOf start end s)); output = over (map pos (missingOf start end s)) out }))

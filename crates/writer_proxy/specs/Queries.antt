@@ -31,15 +31,21 @@ ignored (pos n) s = ltb n (s .base) || has n (s .tracked)
 ignored (negsuc n) s = true
 
 -- "A status query (added) shows tracked state and time"
-abbrev pub shown : Option Mark → Status
-shown none = Shown.Untracked
-shown (some NotAvailable) = Shown.NotAvailable
-shown (some (Received t)) = Shown.Received t
+abbrev pub statusOf : ℤ → State → Option Mark
+statusOf (pos n) s = look n (s .tracked)
+statusOf (negsuc n) s = none
 
-abbrev pub statusOf : ℤ → State → Status
-statusOf (pos n) s = shown (look n (s .tracked))
-statusOf (negsuc n) s = Shown.Untracked
+-- the paper's values for each answer of the status query
+abbrev pub shown : Status → Option Mark
+shown Shown.Untracked = none
+shown Shown.NotAvailable = some NotAvailable
+shown (Shown.Received t) = some (Received t)
 
--- "The last time is absent while the last number is 0"
-unfoldable pub lastOf : State → Last
-lastOf s = cond (eqb (s .last) 0) Nothing (Change (s .last) (s .time))
+-- the last received number and its time: "The last time is absent while the last number is 0"
+unfoldable pub lastOf : State → Option (ℕ × ℕ)
+lastOf s = cond (eqb (s .last) 0) none (some (s .last, s .time))
+
+-- and the paper's values for each answer of that query
+abbrev pub lastShown : Last → Option (ℕ × ℕ)
+lastShown Nothing = none
+lastShown (Change n t) = some (n, t)

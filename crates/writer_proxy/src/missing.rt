@@ -7,7 +7,7 @@ ghost use lib.IntN.{pos};
 ghost use Rattle.sequence_number.specs.Number.{top};
 ghost use Rattle.sequence_number.specs.Lent.{over};
 ghost use Rattle.proxy_record.specs.Record.{Good, stateOf, tracked};
-ghost use Rattle.writer_proxy.specs.Missing.{missing, listed};
+ghost use Rattle.writer_proxy.specs.Missing.{missing, listing, listed};
 use proxy_record::BASE;
 use proxy_record::COUNT;
 use proxy_record::KINDS;
@@ -67,7 +67,7 @@ fn list_missing(t: &[u64], lo: u64, hi: u64, out: &mut [i64])
 // The missing numbers of a heartbeat's range, its end among it, to the lent list. Refused with 4: the end is 2^63 - 1; then with 3: the list is too short.
 pub fn missing_seqnums(t: &[u64], start: i64, end: i64, out: &mut [i64]) -> Listing
     requires { ⌜ Good (now t) ⌝ }
-    ensures { λ r. ⌜ (r ≡ listed start end (stateOf (now (t .entry))) (now (out .entry)) .answer) × (now (out .exit) ≡ listed start end (stateOf (now (t .entry))) (now (out .entry)) .output) ⌝ }
+    ensures { λ r. ⌜ (listing r ≡ listed start end (stateOf (now (t .entry))) (now (out .entry)) .answer) × (now (out .exit) ≡ listed start end (stateOf (now (t .entry))) (now (out .entry)) .output) ⌝ }
 {
     let last = natural(end);
     if last == 9223372036854775807 {

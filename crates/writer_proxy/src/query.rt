@@ -1,7 +1,7 @@
 // What a proxy shows. No query changes it, and none is refused.
 ghost use mathlib.Core.Path.{_≡_};
 ghost use Rattle.proxy_record.specs.Record.{Good, stateOf, tracked};
-ghost use Rattle.writer_proxy.specs.Queries.{look, shown, statusOf, ignored, lastOf};
+ghost use Rattle.writer_proxy.specs.Queries.{look, shown, statusOf, ignored, lastShown, lastOf};
 use proxy_record::BASE;
 use proxy_record::COUNT;
 use proxy_record::KINDS;
@@ -38,7 +38,7 @@ pub fn all_ackable_before(t: &[u64]) -> u64
 // The Rust's `last_change_timestamp`, with the number.
 pub fn last_change(t: &[u64]) -> Last
     requires { ⌜ Good (now t) ⌝ }
-    ensures { λ r. ⌜ r ≡ lastOf (stateOf (now (t .entry))) ⌝ }
+    ensures { λ r. ⌜ lastShown r ≡ lastOf (stateOf (now (t .entry))) ⌝ }
 {
     let n = t[LAST];
     if n == 0 {
@@ -50,7 +50,7 @@ pub fn last_change(t: &[u64]) -> Last
 
 fn status_of(t: &[u64], n: u64) -> Status
     requires { ⌜ Good (now t) ⌝ }
-    ensures { λ r. ⌜ r ≡ shown (look n (tracked (now (t .entry)))) ⌝ }
+    ensures { λ r. ⌜ shown r ≡ look n (tracked (now (t .entry))) ⌝ }
 {
     let len = t[COUNT] as usize;
     let at = column::place_of(&t[NUMBERS..KINDS], len, n);
@@ -71,7 +71,7 @@ fn status_of(t: &[u64], n: u64) -> Status
 // Not in the Rust. A number below the base is not tracked any more.
 pub fn change_status(t: &[u64], number: i64) -> Status
     requires { ⌜ Good (now t) ⌝ }
-    ensures { λ r. ⌜ r ≡ statusOf number (stateOf (now (t .entry))) ⌝ }
+    ensures { λ r. ⌜ shown r ≡ statusOf number (stateOf (now (t .entry))) ⌝ }
 {
     status_of(t, natural(number))
 }

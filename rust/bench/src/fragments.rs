@@ -2,11 +2,10 @@
 
 use std::hint::black_box;
 
-use bytes::Bytes;
 use oracle::original;
 
-use crate::random::Random;
 use crate::rounds::Case;
+use protocol::Random;
 
 const BLOCKS: u32 = 32;
 /// When every fragment comes: the original's clock stands there too.
@@ -68,8 +67,6 @@ struct Fragments {
     original: original::FragmentAssembler,
     port: drucenal::FragmentAssembler,
     datafrags: Vec<original::DataFrag>,
-    /// As many blocks as are in assembly at once, for what the stand-in copies.
-    blocks: Vec<Bytes>,
 }
 
 impl Fragments {
@@ -89,10 +86,6 @@ impl Fragments {
                 serialized_payload: payload(at, shape.fragment_size).into(),
             }
         };
-        let at_once = match order {
-            Order::InTurn | Order::CopiedOut => 1,
-            Order::Interleaved => BLOCKS as usize,
-        };
         let port = drucenal::FragmentAssembler::new(shape.fragment_size, true, shape.block());
         let mut fragments = Self {
             name,
@@ -100,7 +93,6 @@ impl Fragments {
             original: original::FragmentAssembler::new(shape.fragment_size, true),
             port: port.expect("the sizes are accepted"),
             datafrags: (0..BLOCKS * shape.fragments).map(datafrag).collect(),
-            blocks: vec![vec![0; shape.block() as usize].into(); at_once],
         };
         fragments.compare();
         fragments
@@ -142,7 +134,7 @@ impl Fragments {
 }
 
 fn payload(seed: u32, length: u16) -> Vec<u8> {
-    let mut random = Random(seed.into());
+    let mut random = Random::new(seed.into());
     (0..length).map(|_| random.bits() as u8).collect()
 }
 
@@ -184,15 +176,6 @@ impl Case for Fragments {
         let mut sum = 0u64;
         self.by_port(|block| sum = sum.wrapping_add(look(block)));
         sum
-    }
-
-    /// The stand-in for `bytes` copies a finished block, and drops the first one, where the crate itself shares it.
-    fn surplus(&mut self) {
-        let at_once = self.blocks.len();
-        for block in 0..BLOCKS as usize {
-            let block = &mut self.blocks[block % at_once];
-            *block = black_box(block.clone());
-        }
     }
 
     fn agree(&self) -> bool {

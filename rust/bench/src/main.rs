@@ -5,13 +5,13 @@
 //! would. What either side answers is used, and a sum of it compared after each round.
 //!
 //! What favours the original: its clock stands still and its log is empty; the `BTreeSet` that it makes a set from is
-//! there already; its members are not listed but used as they come; its set is written to a vector that has grown; and
-//! what its stand-in for `bytes` copies beyond the crate itself is taken off its time. What favours the port: a
-//! finished block is shown in the area, not handed over; in the row "copied out" the port copies it too.
+//! there already; its members are not listed but used as they come; its set is written to a vector that has grown.
+//! What favours the port: a finished block is shown in the area, not handed over; in the row "copied out" the port
+//! copies it too. Replay lines are timed as processes: the port's program, and this one, which replays by the original.
 
 mod fragments;
 mod proxy;
-mod random;
+mod replay;
 mod rounds;
 mod sets;
 mod system;
@@ -38,6 +38,7 @@ fn main() -> ExitCode {
         [] => (FULL, ""),
         ["--quick"] => (QUICK, ""),
         ["--quick", part] => (QUICK, part),
+        [replay::BY_ORIGINAL] => return replay::by_original(),
         [part] if !part.starts_with('-') => (FULL, part),
         _ => {
             eprintln!("usage: bench [--quick] [PART OF A ROW'S NAME]");
@@ -48,6 +49,13 @@ fn main() -> ExitCode {
     cases.extend(proxy::cases());
     cases.extend(fragments::cases());
     cases.extend(sets::cases());
+    match replay::cases() {
+        Ok(more) => cases.extend(more),
+        Err(why) => {
+            eprintln!("{}: {why}", replay::NAME);
+            return ExitCode::FAILURE;
+        }
+    }
     cases.retain(|case| case.name().contains(part));
     let rows = rounds::run(plan, &mut cases);
     println!(
@@ -55,6 +63,7 @@ fn main() -> ExitCode {
         plan.rounds
     );
     println!("Buffers were not cleared first: they are used again, as a receiver would. Every result is used.");
+    println!();
     rounds::print(&rows);
     ExitCode::SUCCESS
 }

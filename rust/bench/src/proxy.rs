@@ -4,8 +4,8 @@ use std::hint::black_box;
 
 use oracle::original;
 
-use crate::random::Random;
 use crate::rounds::Case;
+use protocol::Random;
 
 const RECEIPTS: i64 = 1_000;
 const QUERIES: usize = 1_024;
@@ -13,23 +13,19 @@ const LISTS: usize = 64;
 const SPAN: i64 = 256;
 
 pub fn cases() -> Vec<Box<dyn Case>> {
-    let in_order = Receipts::new("receipts in order", 1, |i| i);
-    // Each number that ten divides comes a hundred receipts later than its turn.
-    let late = Receipts::new("receipts, one in ten late by a hundred", 100, |i| {
-        if i % 10 == 0 {
-            i - 100
-        } else {
-            i
-        }
-    });
+    let in_order = Receipts::new("receipts in order", 1, 0);
+    let late = Receipts::new("receipts, one in ten late by a hundred", 110, 100);
+    // About 250 are tracked all the time.
+    let near = Receipts::new("receipts, a table held near 256", 290, 280);
     // Number 1 never comes: each receipt forces a step.
-    let held = Receipts::new("receipts, a table held at 256", 2, |i| i);
+    let full = Receipts::new("receipts, a table held at 256", 2, 0);
     let half = Missing::new("missing list over 256, one in two missing", 2);
     let few = Missing::new("missing list over 256, one in sixteen missing", 16);
     vec![
         Box::new(in_order),
         Box::new(late),
-        Box::new(held),
+        Box::new(near),
+        Box::new(full),
         Box::new(half),
         Box::new(few),
         Box::new(Ignore::new()),
@@ -79,11 +75,13 @@ struct Receipts {
 }
 
 impl Receipts {
-    fn new(name: &'static str, from: i64, offset: fn(i64) -> i64) -> Self {
+    /// Each number that ten divides comes so many receipts later than its turn.
+    fn new(name: &'static str, from: i64, late: i64) -> Self {
         let mut both = Both::new();
-        if from > 2 {
+        if late > 0 {
             both.receive((1..from).filter(|number| number % 10 != 0));
         }
+        let offset = |i: i64| if i % 10 == 0 { i - late } else { i };
         Self {
             name,
             both,
@@ -193,7 +191,7 @@ impl Ignore {
         let mut both = Both::new();
         both.receive(1..=100);
         both.receive((0..256).map(|i| 102 + 2 * i));
-        let mut random = Random(1);
+        let mut random = Random::new(1);
         Self {
             both,
             numbers: (0..QUERIES).map(|_| 1 + random.below(700) as i64).collect(),

@@ -19,9 +19,6 @@ pub trait Case {
     /// The same pass by the port: the same sum.
     fn port(&mut self) -> u64;
 
-    /// What the stand-ins do in a pass beyond the crates that they stand for: taken off the original's time.
-    fn surplus(&mut self) {}
-
     /// Both sides hold the same; asked between rounds, outside the time.
     fn agree(&self) -> bool {
         true
@@ -42,7 +39,6 @@ pub struct Row {
     passes: usize,
     original: Vec<f64>,
     port: Vec<f64>,
-    surplus: Vec<f64>,
 }
 
 pub fn run(plan: Plan, cases: &mut [Box<dyn Case>]) -> Vec<Row> {
@@ -85,7 +81,6 @@ fn start(plan: Plan, case: &mut dyn Case) -> Row {
                 passes: passes.max(1),
                 original: Vec::new(),
                 port: Vec::new(),
-                surplus: Vec::new(),
             };
         }
         passes *= 2;
@@ -102,16 +97,11 @@ fn one_round(case: &mut dyn Case, row: &mut Row, original_first: bool) {
         port = timed(passes, || case.port());
         original = timed(passes, || case.original());
     }
-    let (surplus, _) = timed(passes, || {
-        case.surplus();
-        0
-    });
     assert_eq!(original.1, port.1, "{}: the two sides answered otherwise", row.name);
     assert!(case.agree(), "{}: the two sides hold other things", row.name);
     let calls = (passes * case.calls()) as f64;
     row.original.push(original.0 / calls);
     row.port.push(port.0 / calls);
-    row.surplus.push(surplus / calls);
 }
 
 /// Nanoseconds, and the sum of the passes' sums.
@@ -124,30 +114,54 @@ fn timed(passes: usize, mut pass: impl FnMut() -> u64) -> (f64, u64) {
     (worked() - from, sum)
 }
 
-/// In rising order: lowest, middle, highest.
-fn spread(values: impl Iterator<Item = f64>) -> (f64, f64, f64) {
+/// In rising order.
+fn sorted(values: impl Iterator<Item = f64>) -> Vec<f64> {
     let mut values: Vec<f64> = values.collect();
     values.sort_by(f64::total_cmp);
-    (values[0], values[values.len() / 2], values[values.len() - 1])
+    values
 }
 
+/// The value with so many hundredths of the others below it.
+fn at(values: &[f64], hundredths: usize) -> f64 {
+    values[(values.len() - 1) * hundredths / 100]
+}
+
+/// The table, in markdown.
 pub fn print(rows: &[Row]) {
-    let title = "nanoseconds a call";
-    let wide = rows.iter().map(|row| row.name.len()).fold(title.len(), usize::max);
-    println!();
+    const TITLES: [&str; 6] = [
+        "row",
+        "Rust, ns",
+        "port, ns",
+        "Rust / port",
+        "middle half",
+        "all rounds",
+    ];
+    let wide = rows.iter().map(|row| row.name.chars().count()).fold(3, usize::max);
+    let [name, original, port, ratio, half, all] = TITLES;
+    println!("| {name:wide$} | {original:>8} | {port:>8} | {ratio:>11} | {half:>14} | {all:>14} |");
     println!(
-        "{title:wide$}  {:>9}  {:>9}  Rust/port (lowest..highest)",
-        "Rust", "port"
+        "|{:-<w$}|{:->10}|{:->10}|{:->13}|{:->16}|{:->16}|",
+        "",
+        ":",
+        ":",
+        ":",
+        ":",
+        ":",
+        w = wide + 2
     );
     for row in rows {
-        let (_, surplus, _) = spread(row.surplus.iter().copied());
-        let originals = row.original.iter().map(|original| original - surplus);
-        let (_, original, _) = spread(originals.clone());
-        let (_, port, _) = spread(row.port.iter().copied());
-        let ratios = originals.zip(&row.port).map(|(original, port)| original / port);
-        let (lowest, middle, highest) = spread(ratios);
+        let original = at(&sorted(row.original.iter().copied()), 50);
+        let port = at(&sorted(row.port.iter().copied()), 50);
+        let ratios = sorted(
+            row.original
+                .iter()
+                .zip(&row.port)
+                .map(|(original, port)| original / port),
+        );
+        let between = |low, high| format!("{:.2} to {:.2}", at(&ratios, low), at(&ratios, high));
+        let (middle, half, all) = (at(&ratios, 50), between(25, 75), between(0, 100));
         println!(
-            "{:wide$}  {original:9.1}  {port:9.1}  {middle:6.2} ({lowest:.2}..{highest:.2})",
+            "| {:wide$} | {original:8.1} | {port:8.1} | {middle:11.2} | {half:>14} | {all:>14} |",
             row.name
         );
     }

@@ -8,8 +8,8 @@ use oracle::original;
 use oracle::original::SequenceNumber;
 use speedy::{Endianness, Readable, SliceReader, VecWriter, Writable};
 
-use crate::random::Random;
 use crate::rounds::Case;
+use protocol::Random;
 
 const SETS: usize = 64;
 const SPAN: usize = 256;
@@ -45,6 +45,7 @@ struct Input {
 
 /// What is lent from call to call.
 struct Lent {
+    set: drucenal::SequenceNumberSet,
     writer: VecWriter<Endianness>,
     bytes: [u8; LENGTH],
     list: [i64; SPAN],
@@ -62,11 +63,12 @@ struct Row {
 
 impl Row {
     fn new(name: &'static str, members: usize, original: Pass, port: Pass) -> Self {
-        let mut random = Random(members as u64);
+        let mut random = Random::new(members as u64);
         Self {
             name,
             inputs: (0..SETS).map(|_| Input::new(&mut random, members)).collect(),
             lent: Lent {
+                set: drucenal::SequenceNumberSet::new_empty(1),
                 writer: VecWriter::new(Endianness::LittleEndian),
                 bytes: [0; LENGTH],
                 list: [0; SPAN],
@@ -132,14 +134,12 @@ fn read(inputs: &[Input], _: &mut Lent) -> u64 {
     sum as u64
 }
 
-fn port_read(inputs: &[Input], _: &mut Lent) -> u64 {
+fn port_read(inputs: &[Input], lent: &mut Lent) -> u64 {
     let mut sum = 0;
     for input in inputs {
-        let read = black_box(drucenal::SequenceNumberSet::read(
-            ByteOrder::Little,
-            black_box(&input.bytes[..]),
-        ));
-        sum += read.map_or(0, |(_, taken)| taken + 1);
+        let read = lent.set.read_over(ByteOrder::Little, black_box(&input.bytes[..]));
+        black_box(&lent.set);
+        sum += read.map_or(0, |taken| taken + 1);
     }
     sum as u64
 }
@@ -174,11 +174,11 @@ fn make(inputs: &[Input], _: &mut Lent) -> u64 {
     sum as u64
 }
 
-fn port_make(inputs: &[Input], _: &mut Lent) -> u64 {
+fn port_make(inputs: &[Input], lent: &mut Lent) -> u64 {
     let mut sum = 0;
     for input in inputs {
-        let set = drucenal::SequenceNumberSet::from_base_and_set(black_box(input.base), black_box(&input.list));
-        sum += black_box(set).map_or(0, |set| set.base);
+        let made = lent.set.make_over(black_box(input.base), black_box(&input.list));
+        sum += made.map_or(0, |()| black_box(&lent.set).base);
     }
     sum as u64
 }

@@ -1,15 +1,23 @@
 //! The fragment assembler.
 
-use drucenal::{DataFrag, FragmentAssembler, InAssembly, Outcome};
-use protocol::{area_byte, error, grow_area, Assembler, Fragment, Happened, Open, Reply, Returned, Room};
+use drucenal::ffi::{FragmentAnswer, FragmentCall};
+use drucenal::{DataFrag, FragmentAssembler, InAssembly, Outcome, Refused, PLACES};
+use protocol::{error, grow_area, Assembler, Fragment, Happened, Open, Reply, Returned, Room, Stop, UNTOUCHED};
 
 use crate::lent::{lend, refused};
 use crate::Calls;
 
-const MOST_OPEN: usize = 129;
 const MOST_FRAGMENTS: usize = 256;
 /// A longer area is not looked at after a refused fragment.
 const LOOKED_AT: usize = 1 << 16;
+
+/// What the numbers behind the fragment call's references hold before it.
+const ANSWER: FragmentAnswer = FragmentAnswer {
+    what: UNTOUCHED as u32,
+    of: UNTOUCHED as u64,
+    place: UNTOUCHED as usize,
+    length: UNTOUCHED as u32,
+};
 
 pub struct Held {
     assembler: FragmentAssembler,
@@ -32,39 +40,70 @@ impl Held {
         open
     }
 
-    fn fragment(&mut self, fragment: &Fragment, area: Room) -> Reply<Outcome> {
-        let area = area.unwrap_or(self.assembler.area().len());
-        grow_area(self.assembler.area_mut(), area);
-        let before = (area <= LOOKED_AT).then(|| self.assembler.area().to_vec());
+    /// By the front, or with only the area's first bytes lent.
+    fn call(&mut self, lent: usize, fragment: &FragmentCall) -> Result<Outcome, Refused> {
+        if lent < self.assembler.area().len() {
+            let mut answer = ANSWER;
+            return match self.exported(lent, fragment, &mut answer) {
+                0 => Ok(answer.into()),
+                number => Err(Refused(number)),
+            };
+        }
         let datafrag = DataFrag {
             writer_sn: fragment.number,
             fragment_starting_num: fragment.start,
             fragments_in_submessage: fragment.count,
             data_size: fragment.data_size,
             fragment_size: fragment.size,
-            serialized_payload: &fragment.payload,
+            serialized_payload: fragment.payload,
         };
-        let outcome = self.assembler.new_datafrag_lending(area, fragment.time, &datafrag);
-        let touched = before.is_some_and(|before| self.assembler.area() != before);
-        if outcome.is_err() && touched {
-            return error("touched");
-        }
-        outcome.map_err(refused)
+        self.assembler.new_datafrag(fragment.time, &datafrag)
     }
 
-    fn missing(&self, number: i64, room: Room) -> Reply<Vec<u32>> {
-        lend(room, MOST_FRAGMENTS, |out| {
-            self.assembler.missing_frags_for(number, out)
+    fn exported(&mut self, lent: usize, fragment: &FragmentCall, answer: &mut FragmentAnswer) -> u32 {
+        let (record, area) = self.assembler.parts_mut();
+        record.new_datafrag(&mut area[..lent], fragment, answer)
+    }
+
+    fn fragment(&mut self, fragment: &Fragment, area: Room) -> Reply<Outcome> {
+        let area = area.unwrap_or(self.assembler.area().len());
+        grow_area(self.assembler.parts_mut().1, area);
+        let before = (area <= LOOKED_AT).then(|| self.assembler.area().to_vec());
+        let fragment = FragmentCall {
+            time: fragment.time,
+            number: fragment.number,
+            size: fragment.size,
+            data_size: fragment.data_size,
+            start: fragment.start,
+            count: fragment.count,
+            payload: &fragment.payload,
+        };
+        self.call(area, &fragment).or_else(|number| {
+            refused(number, || {
+                let mut answer = ANSWER;
+                let number = self.exported(area, &fragment, &mut answer);
+                let kept = before.is_none_or(|before| self.assembler.area() == before);
+                (number, kept && answer == ANSWER)
+            })
         })
+    }
+
+    fn missing(&mut self, number: i64, room: Room) -> Reply<Vec<u32>> {
+        lend(
+            &mut self.assembler,
+            room,
+            MOST_FRAGMENTS,
+            |assembler, out| assembler.missing_frags_for(number, out),
+            |assembler, out, listed| assembler.parts_mut().0.missing_frags_for(number, out, listed),
+        )
     }
 }
 
 impl Assembler for Calls {
     fn asm_new(&mut self, fragment_size: u16, reliable: bool, place_size: u32) -> Reply<()> {
-        let mut assembler = FragmentAssembler::new(fragment_size, reliable, place_size).map_err(refused)?;
-        for (i, byte) in assembler.area_mut().iter_mut().enumerate() {
-            *byte = area_byte(i);
-        }
+        let set_up = FragmentAssembler::with_area(fragment_size, reliable, place_size, Vec::new());
+        let mut assembler = set_up.map_err(|Refused(number)| Stop::Refused(number))?;
+        grow_area(assembler.parts_mut().1, PLACES * place_size as usize);
         self.assembler = Some(Held { assembler, last: None });
         Ok(())
     }
@@ -91,8 +130,13 @@ impl Assembler for Calls {
     }
 
     fn asm_clean(&mut self, cutoff: u64, room: Room) -> Reply<Vec<i64>> {
-        let assembler = &mut self.held()?.assembler;
-        lend(room, MOST_OPEN, |out| assembler.garbage_collect_before(cutoff, out))
+        lend(
+            &mut self.held()?.assembler,
+            room,
+            PLACES,
+            |assembler, out| assembler.garbage_collect_before(cutoff, out),
+            |assembler, out, listed| assembler.parts_mut().0.garbage_collect_before(cutoff, out, listed),
+        )
     }
 
     fn asm_missing(&mut self, number: i64, room: Room) -> Reply<Vec<u32>> {
@@ -118,7 +162,8 @@ impl Assembler for Calls {
 
     fn asm_dump(&mut self) -> Reply<Vec<Open>> {
         let held = self.held()?;
-        let one = |sample: &InAssembly| {
+        let open = held.open();
+        let mut one = |sample: &InAssembly| {
             Ok(Open {
                 number: sample.number,
                 fragments: sample.fragments as usize,
@@ -127,7 +172,7 @@ impl Assembler for Calls {
                 bytes: held.assembler.bytes_of(sample).to_vec(),
             })
         };
-        held.open().iter().map(one).collect()
+        open.iter().map(&mut one).collect()
     }
 
     fn asm_area(&mut self) -> Reply<&[u8]> {

@@ -1,9 +1,10 @@
 //! Numbers on the wire.
 
-use drucenal::{ByteOrder, FragmentNumber, SequenceNumber};
+use drucenal::ffi::Number;
+use drucenal::{ByteOrder, FragmentNumber, Refused, SequenceNumber};
 use protocol::{error, Numbers, Reply, Room, Width};
 
-use crate::lent::{lend, refused};
+use crate::lent::{before, lend, refused};
 use crate::Calls;
 
 pub fn order(big: bool) -> ByteOrder {
@@ -22,14 +23,39 @@ pub fn narrow(number: i64) -> Reply<u32> {
     }
 }
 
+fn write<N: Number>(
+    big: bool,
+    number: N,
+    room: Room,
+    call: impl FnOnce(&mut [u8]) -> Result<(), Refused>,
+) -> Reply<Vec<u8>> {
+    let call = |_: &mut (), out: &mut [u8]| call(out).map(|()| N::LENGTH);
+    lend(&mut (), room, N::LENGTH, call, |_, out, _| {
+        N::write_number(big, number, out)
+    })
+}
+
+fn read<N: Number + From<u8> + Into<i64> + PartialEq>(
+    big: bool,
+    bytes: &[u8],
+    number: Result<N, Refused>,
+) -> Reply<i64> {
+    number.map(N::into).or_else(|number| {
+        refused(number, || {
+            let mut number = before::<N>();
+            let answer = N::read_number(big, bytes, &mut number);
+            (answer, number == before())
+        })
+    })
+}
+
 impl Numbers for Calls {
     fn num_write(&mut self, width: Width, big: bool, number: i64, room: Room) -> Reply<Vec<u8>> {
-        let order = order(big);
         match width {
-            Width::Sequence => lend(room, 8, |out| SequenceNumber(number).write(order, out).map(|()| 8)),
+            Width::Sequence => write(big, number, room, |out| SequenceNumber(number).write(order(big), out)),
             Width::Fragment => {
-                let number = FragmentNumber(narrow(number)?);
-                lend(room, 4, |out| number.write(order, out).map(|()| 4))
+                let number = narrow(number)?;
+                write(big, number, room, |out| FragmentNumber(number).write(order(big), out))
             }
         }
     }
@@ -37,9 +63,8 @@ impl Numbers for Calls {
     fn num_read(&mut self, width: Width, big: bool, bytes: &[u8]) -> Reply<i64> {
         let order = order(big);
         match width {
-            Width::Sequence => SequenceNumber::read(order, bytes).map(|number| number.0),
-            Width::Fragment => FragmentNumber::read(order, bytes).map(|number| i64::from(number.0)),
+            Width::Sequence => read(big, bytes, SequenceNumber::read(order, bytes).map(i64::from)),
+            Width::Fragment => read(big, bytes, FragmentNumber::read(order, bytes).map(u32::from)),
         }
-        .map_err(refused)
     }
 }

@@ -1,15 +1,15 @@
 //! Number sets of either width.
 
-use drucenal::{FragmentNumberSet, NumberSet, SequenceNumberSet};
+use drucenal::ffi::Number;
+use drucenal::{FragmentNumberSet, NumberSet, Refused, SequenceNumberSet, MOST_MEMBERS};
 use protocol::{Reply, Room, Set, Sets, Width};
 
-use crate::lent::{lend, refused};
+use crate::lent::{before, lend, refused};
 use crate::numbers::{narrow, order};
 use crate::Calls;
 
-/// The longest set on the wire, and the most members.
+/// The longest set on the wire.
 const LONGEST: usize = 8 + 4 + 32;
-const MOST_MEMBERS: usize = 256;
 
 fn sequence(set: &Set) -> SequenceNumberSet {
     NumberSet {
@@ -35,69 +35,109 @@ fn shown<N: Into<i64>>(set: NumberSet<N>) -> Set {
     }
 }
 
+/// A width as this side of the protocol needs it.
+trait Wide: Number + From<u8> + Into<i64> + PartialEq {}
+
+impl Wide for i64 {}
+impl Wide for u32 {}
+
+/// The set that a refused call leaves as it was.
+fn untouched<N: Wide>() -> NumberSet<N> {
+    NumberSet {
+        base: before(),
+        count: before(),
+        words: [before(); 8],
+    }
+}
+
+fn read<N: Wide>(big: bool, bytes: &[u8]) -> Reply<(Set, usize)> {
+    match NumberSet::<N>::read(order(big), bytes) {
+        Ok((set, taken)) => Ok((shown(set), taken)),
+        Err(number) => refused(number, || {
+            let (mut set, mut taken) = (untouched::<N>(), before());
+            let (base, count, words) = (&mut set.base, &mut set.count, &mut set.words);
+            let answer = N::read_set(big, bytes, base, count, words, &mut taken);
+            (answer, set == untouched() && taken == before::<usize>())
+        }),
+    }
+}
+
+fn write<N: Wide>(big: bool, set: NumberSet<N>, room: Room) -> Reply<Vec<u8>> {
+    let call = |set: &mut NumberSet<N>, out: &mut [u8]| set.write(order(big), out);
+    lend(&mut { set }, room, LONGEST, call, |set, out, wrote| {
+        N::write_set(big, set.base, set.count, &set.words, out, wrote)
+    })
+}
+
+fn walk<N: Wide>(rising: bool, set: NumberSet<N>, room: Room) -> Reply<Vec<i64>> {
+    let call = |set: &mut NumberSet<N>, out: &mut [N]| match rising {
+        true => set.walk(out),
+        false => set.walk_back(out),
+    };
+    let members = lend(&mut { set }, room, MOST_MEMBERS, call, |set, out, listed| {
+        N::walk_set(rising, set.base, set.count, &set.words, out, listed)
+    })?;
+    Ok(members.into_iter().map(N::into).collect())
+}
+
+fn measure<N: Wide>(set: NumberSet<N>) -> Reply<usize> {
+    set.len_serialized().or_else(|number: Refused| {
+        refused(number, || {
+            let mut length = before();
+            let answer = N::measure_set(set.count, &mut length);
+            (answer, length == before::<usize>())
+        })
+    })
+}
+
+fn make<N: Wide>(base: N, list: &[N]) -> Reply<Set> {
+    match NumberSet::from_base_and_set(base, list) {
+        Ok(set) => Ok(shown(set)),
+        Err(number) => refused(number, || {
+            let mut set = untouched::<N>();
+            let (low, count, words) = (&mut set.base, &mut set.count, &mut set.words);
+            let answer = N::make_set(base, list, low, count, words);
+            (answer, set == untouched())
+        }),
+    }
+}
+
 impl Sets for Calls {
     fn set_read(&mut self, width: Width, big: bool, bytes: &[u8]) -> Reply<(Set, usize)> {
-        let order = order(big);
         match width {
-            Width::Sequence => SequenceNumberSet::read(order, bytes).map(|(set, taken)| (shown(set), taken)),
-            Width::Fragment => FragmentNumberSet::read(order, bytes).map(|(set, taken)| (shown(set), taken)),
+            Width::Sequence => read::<i64>(big, bytes),
+            Width::Fragment => read::<u32>(big, bytes),
         }
-        .map_err(refused)
     }
 
     fn set_write(&mut self, width: Width, big: bool, set: &Set, room: Room) -> Reply<Vec<u8>> {
-        let order = order(big);
         match width {
-            Width::Sequence => lend(room, LONGEST, |out| sequence(set).write(order, out)),
-            Width::Fragment => {
-                let set = fragment(set)?;
-                lend(room, LONGEST, |out| set.write(order, out))
-            }
+            Width::Sequence => write(big, sequence(set), room),
+            Width::Fragment => write(big, fragment(set)?, room),
         }
     }
 
     fn set_walk(&mut self, width: Width, rising: bool, set: &Set, room: Room) -> Reply<Vec<i64>> {
         match width {
-            Width::Sequence => {
-                let set = sequence(set);
-                lend(room, MOST_MEMBERS, |out| {
-                    if rising {
-                        set.walk(out)
-                    } else {
-                        set.walk_back(out)
-                    }
-                })
-            }
-            Width::Fragment => {
-                let set = fragment(set)?;
-                let members = lend(room, MOST_MEMBERS, |out| {
-                    if rising {
-                        set.walk(out)
-                    } else {
-                        set.walk_back(out)
-                    }
-                })?;
-                Ok(members.into_iter().map(i64::from).collect())
-            }
+            Width::Sequence => walk(rising, sequence(set), room),
+            Width::Fragment => walk(rising, fragment(set)?, room),
         }
     }
 
     fn set_len(&mut self, width: Width, set: &Set) -> Reply<usize> {
         match width {
-            Width::Sequence => sequence(set).len_serialized(),
-            Width::Fragment => fragment(set)?.len_serialized(),
+            Width::Sequence => measure(sequence(set)),
+            Width::Fragment => measure(fragment(set)?),
         }
-        .map_err(refused)
     }
 
     fn set_make(&mut self, width: Width, base: i64, list: &[i64]) -> Reply<Set> {
         match width {
-            Width::Sequence => SequenceNumberSet::from_base_and_set(base, list).map(shown),
+            Width::Sequence => make(base, list),
             Width::Fragment => {
                 let list: Vec<u32> = list.iter().map(|number| narrow(*number)).collect::<Reply<_>>()?;
-                FragmentNumberSet::from_base_and_set(narrow(base)?, &list).map(shown)
+                make(narrow(base)?, &list)
             }
         }
-        .map_err(refused)
     }
 }

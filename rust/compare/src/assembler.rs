@@ -3,23 +3,24 @@
 use oracle::Oracle;
 use protocol::{answer, hex, Assembler};
 
-use crate::checker::{Checker, Stopped};
-use crate::random::Random;
+use crate::checker::{Checker, Stopped, EXHAUSTIVE};
 use crate::side::Line;
+use crate::small_assemblers;
+use protocol::Random;
 
-const CASES: usize = 400_000;
 const PLACES: i64 = 129;
 const MOST_FRAGMENTS: i64 = 256;
 const LARGEST_PLACE: i64 = 65_536;
 
-pub fn run(checker: &mut Checker, random: &mut Random, cases: Option<usize>) -> Result<(), Stopped> {
+pub fn run(checker: &mut Checker, random: &mut Random, size: usize) -> Result<(), Stopped> {
     checker.lines(&set_ups())?;
     every_refusal(checker)?;
-    let mut fragments = 0;
-    while fragments < cases.unwrap_or(CASES) {
-        let script = chain(random);
-        fragments += script.iter().filter(|line| line.starts_with(b"asm.frag")).count();
-        checker.case(&script)?;
+    if size >= EXHAUSTIVE {
+        small_assemblers::every_assembler(checker)?;
+    }
+    let before = checker.compared();
+    while checker.compared() < before + size {
+        checker.case(&chain(random))?;
     }
     Ok(())
 }

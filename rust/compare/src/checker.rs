@@ -5,7 +5,10 @@ use std::time::{Duration, Instant};
 
 use crate::model;
 use crate::side::{Line, Side, ENDED};
-use crate::tally::Tally;
+use crate::tally::{grouped, Count, Tally};
+
+/// From this size on a part runs its exhaustive scripts too.
+pub const EXHAUSTIVE: usize = 100_000;
 
 /// Why a run ended early.
 #[derive(Debug)]
@@ -16,18 +19,12 @@ pub enum Stopped {
         expected: String,
     },
     Broken(String),
-    /// The port has none of these calls.
-    NotHere,
 }
-
-/// So many lines skipped, and none compared: the port has none of these calls.
-const ENOUGH_SKIPPED: usize = 1000;
 
 impl fmt::Display for Stopped {
     fn fmt(&self, out: &mut fmt::Formatter<'_>) -> fmt::Result {
         match self {
             Self::Broken(why) => write!(out, "{why}"),
-            Self::NotHere => write!(out, "skipped, not here yet"),
             Self::Different { script, port, expected } => {
                 writeln!(out, "a difference, after")?;
                 for line in script {
@@ -43,8 +40,6 @@ impl fmt::Display for Stopped {
 /// What one line shows.
 enum Verdict {
     Same,
-    /// The port does not have the call yet.
-    Skipped,
     /// The original panicked: the chain ends, and the port answered by the document where the model says how.
     Outside,
     /// Neither side takes the line for a command.
@@ -53,14 +48,12 @@ enum Verdict {
 }
 
 fn judge(script: &[Line], at: usize, port: &str, oracle: &str) -> Verdict {
-    if port.starts_with("err not here yet") {
-        return Verdict::Skipped;
-    }
     // Only the oracle itself, on the port's side, panics too.
     if oracle == "err panic" && port != oracle {
         let before = at.checked_sub(1).map(|before| script[before].as_slice());
         return match model::answer(&script[at], before) {
             Some(expected) if expected != port => Verdict::Different(expected),
+            None if port.starts_with("err ") => Verdict::Different("no error".to_string()),
             _ => Verdict::Outside,
         };
     }
@@ -77,6 +70,8 @@ pub struct Checker {
     port: Box<dyn Side>,
     oracle: Box<dyn Side>,
     pub tally: Tally,
+    /// From the first script on.
+    start: Instant,
     shown: Instant,
 }
 
@@ -87,18 +82,20 @@ impl Checker {
             port,
             oracle,
             tally: Tally::default(),
+            start: Instant::now(),
             shown: Instant::now(),
         }
     }
 
     /// Runs a script that stands for itself: what it needs it sets up.
     pub fn case(&mut self, script: &[Line]) -> Result<(), Stopped> {
+        if self.tally.of(Count::Cases) == 0 {
+            self.start = Instant::now();
+        }
         let port = self.port.run(script);
         let oracle = self.oracle.run(script);
         self.progress();
-        if self.tally.compared == 0 && self.tally.skipped > ENOUGH_SKIPPED {
-            return Err(Stopped::NotHere);
-        }
+        self.tally.add(Count::Cases, 1);
         if port.iter().chain(&oracle).any(|answer| answer == ENDED) {
             return Err(Stopped::Broken(format!(
                 "a program ended in this script:\n{}",
@@ -108,10 +105,9 @@ impl Checker {
         for (at, line) in script.iter().enumerate() {
             match judge(script, at, &port[at], &oracle[at]) {
                 Verdict::Same => self.tally.line(line, &port[at]),
-                Verdict::Skipped => self.tally.skipped += 1,
                 Verdict::Outside => {
                     self.tally.line(line, &port[at]);
-                    self.tally.event("outside the stated domain (the original panics)", 1);
+                    self.tally.add(Count::Panics, 1);
                     return Ok(());
                 }
                 Verdict::NoCommand => {
@@ -176,21 +172,32 @@ impl Checker {
         Stopped::Different { script, port, expected }
     }
 
+    /// How many answers were compared.
+    pub fn compared(&self) -> usize {
+        self.tally.of(Count::Answers)
+    }
+
     fn progress(&mut self) {
         if self.shown.elapsed() > Duration::from_secs(5) {
             self.shown = Instant::now();
-            eprintln!("{}: {} compared", self.name, self.tally.compared);
+            let a_second = self.compared() as f64 / self.start.elapsed().as_secs_f64();
+            eprintln!(
+                "{}: {} compared, {} a second",
+                self.name,
+                grouped(self.compared()),
+                grouped(a_second as usize)
+            );
         }
     }
 
-    /// The closing table.
+    /// Says that the part is done.
     pub fn close(&self) {
-        let Tally { compared, skipped, .. } = self.tally;
-        print!("{}", self.tally);
-        if skipped > 0 {
-            println!("{skipped:>12}  skipped: not here yet");
-        }
-        println!("{}: {compared} compared, 0 differences", self.name);
+        eprintln!(
+            "{}: {} compared in {} s, 0 differences",
+            self.name,
+            grouped(self.compared()),
+            self.start.elapsed().as_secs()
+        );
     }
 }
 

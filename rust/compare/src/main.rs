@@ -6,11 +6,12 @@ mod checker;
 mod model;
 mod numbers;
 mod proxy;
-mod random;
 mod replay;
 mod sets;
 mod side;
+mod small_assemblers;
 mod small_proxies;
+mod small_states;
 mod tally;
 #[cfg(test)]
 mod tests;
@@ -18,31 +19,42 @@ mod tests;
 use std::process::ExitCode;
 
 use checker::{Checker, Stopped};
-use random::Random;
+use protocol::{replay_program, Random};
 use side::{InProcess, Program, Side};
+use tally::{grouped, table, Count, Tally};
 
-const USAGE: &str = "usage: compare num|sets|proxy|asm|replay|all [--seed S] [--cases N]
+const USAGE: &str = "usage: compare num|sets|proxy|asm|replay|all [--seed S] [--size N]
                [--programs CALLS ORACLE] [--replay PROGRAM] [--self]
+    --seed       of the scripts: 1 where none is named
+    --size       how many answers of random scripts to compare in each part: 1,000,000 where none is named;
+                 fewer than 100,000 leave out the long exhaustive parts
     --programs   feeds the two programs instead of calling both in this process
-    --replay     the port's replay program
-    --self       the oracle against itself, to try the generators
-Fewer cases than the default leave out the long exhaustive parts of sets and proxy.";
+    --replay     the port's replay program: target/bin/replay where none is named
+    --self       the oracle against itself, to try the generators";
+
+const PARTS: [&str; 5] = ["num", "sets", "proxy", "asm", "replay"];
+const SIZE: usize = 1_000_000;
 
 /// What the command line asks for.
 struct Asked {
-    part: String,
+    parts: Vec<&'static str>,
     seed: u64,
-    cases: Option<usize>,
+    size: usize,
     programs: Option<(String, String)>,
     replay: Option<String>,
     itself: bool,
 }
 
 fn asked(mut words: impl Iterator<Item = String>) -> Option<Asked> {
+    let named = words.next()?;
+    let parts: Vec<&str> = PARTS
+        .into_iter()
+        .filter(|part| named == "all" || named == *part)
+        .collect();
     let mut asked = Asked {
-        part: words.next()?,
+        parts,
         seed: 1,
-        cases: None,
+        size: SIZE,
         programs: None,
         replay: None,
         itself: false,
@@ -50,39 +62,39 @@ fn asked(mut words: impl Iterator<Item = String>) -> Option<Asked> {
     while let Some(word) = words.next() {
         match word.as_str() {
             "--seed" => asked.seed = words.next()?.parse().ok()?,
-            "--cases" => asked.cases = Some(words.next()?.parse().ok()?),
+            "--size" => asked.size = words.next()?.parse().ok()?,
             "--programs" => asked.programs = Some((words.next()?, words.next()?)),
             "--replay" => asked.replay = Some(words.next()?),
             "--self" => asked.itself = true,
             _ => return None,
         }
     }
-    Some(asked)
+    (!asked.parts.is_empty()).then_some(asked)
 }
 
+type Sides = (Box<dyn Side>, Box<dyn Side>);
+
 /// The port's side and the oracle's.
-fn sides(asked: &Asked, part: &str) -> std::io::Result<(Box<dyn Side>, Box<dyn Side>)> {
+fn sides(asked: &Asked, part: &str) -> Result<Sides, String> {
     if part == "replay" {
         let oracle = Box::new(replay::OracleReplay);
         return Ok(match &asked.replay {
-            Some(program) => (Box::new(replay::ReplayProgram::new(program)), oracle),
             None if asked.itself => (Box::new(replay::OracleReplay), oracle),
-            None => (Box::new(replay::NoReplay), oracle),
+            None => (Box::new(replay::ReplayProgram::new(replay_program()?)), oracle),
+            Some(program) => (Box::new(replay::ReplayProgram::new(program.into())), oracle),
         });
     }
+    let start = |program: &str| Program::start(program).map_err(|error| format!("{program}: {error}"));
     let oracle = || Box::new(InProcess(oracle::Oracle::new()));
     Ok(match &asked.programs {
-        Some((calls, oracle)) => (Box::new(Program::start(calls)?), Box::new(Program::start(oracle)?)),
+        Some((calls, oracle)) => (Box::new(start(calls)?), Box::new(start(oracle)?)),
         None if asked.itself => (oracle(), oracle()),
         None => (Box::new(InProcess(calls::Calls::new())), oracle()),
     })
 }
 
 /// Runs one part.
-fn run(asked: &Asked, part: &str) -> Result<(), Stopped> {
-    let (port, oracle) = sides(asked, part).map_err(|error| Stopped::Broken(error.to_string()))?;
-    let mut checker = Checker::new(part, port, oracle);
-    let mut random = Random::new(asked.seed);
+fn run(checker: &mut Checker, part: &str, seed: u64, size: usize) -> Result<(), Stopped> {
     let run = match part {
         "num" => numbers::run,
         "sets" => sets::run,
@@ -90,12 +102,24 @@ fn run(asked: &Asked, part: &str) -> Result<(), Stopped> {
         "asm" => assembler::run,
         _ => replay::run,
     };
-    run(&mut checker, &mut random, asked.cases)?;
-    if checker.tally.compared == 0 {
-        return Err(Stopped::NotHere);
+    run(checker, &mut Random::new(seed), size)
+}
+
+/// What each part met; in words where it ended early.
+fn compared(asked: &Asked) -> Result<Vec<(&'static str, Tally)>, String> {
+    let mut checkers = Vec::new();
+    // A side that is missing is told before the work begins.
+    for part in &asked.parts {
+        let (port, oracle) = sides(asked, part).map_err(|why| format!("{part}: {why}"))?;
+        checkers.push((*part, Checker::new(part, port, oracle)));
     }
-    checker.close();
-    Ok(())
+    let mut met = Vec::new();
+    for (part, mut checker) in checkers {
+        run(&mut checker, part, asked.seed, asked.size).map_err(|stopped| format!("{part}: {stopped}"))?;
+        checker.close();
+        met.push((part, checker.tally));
+    }
+    Ok(met)
 }
 
 fn main() -> ExitCode {
@@ -103,33 +127,21 @@ fn main() -> ExitCode {
         eprintln!("{USAGE}");
         return ExitCode::FAILURE;
     };
-    let parts: &[&str] = match asked.part.as_str() {
-        "num" => &["num"],
-        "sets" => &["sets"],
-        "proxy" => &["proxy"],
-        "asm" => &["asm"],
-        "replay" => &["replay"],
-        "all" => &["num", "sets", "proxy", "asm", "replay"],
-        _ => {
-            eprintln!("{USAGE}");
+    let met = match compared(&asked) {
+        Ok(met) => met,
+        Err(why) => {
+            println!("{why}");
             return ExitCode::FAILURE;
         }
     };
-    let mut any = false;
-    for part in parts {
-        match run(&asked, part) {
-            Ok(()) => any = true,
-            Err(stopped @ Stopped::NotHere) => println!("{part}: {stopped}"),
-            Err(stopped) => {
-                println!("{part}: {stopped}");
-                return ExitCode::FAILURE;
-            }
-        }
-    }
-    if any {
-        ExitCode::SUCCESS
-    } else {
-        println!("nothing was compared: the port has none of these calls yet");
-        ExitCode::FAILURE
-    }
+    let sum = |count| grouped(met.iter().map(|(_, tally)| tally.of(count)).sum());
+    println!("{}", table(&met));
+    println!();
+    println!(
+        "seed {}: {} cases, {} answers compared, 0 differences",
+        asked.seed,
+        sum(Count::Cases),
+        sum(Count::Answers)
+    );
+    ExitCode::SUCCESS
 }

@@ -3,17 +3,17 @@
 use protocol::hex;
 
 use crate::checker::{Checker, Stopped};
-use crate::random::Random;
 use crate::side::Line;
+use protocol::Random;
 
-const CASES: usize = 1_000_000;
 const ORDERS: [&str; 2] = ["big", "little"];
 /// Every length of input and every room up to this one.
 const LONGEST: usize = 12;
 
-pub fn run(checker: &mut Checker, random: &mut Random, cases: Option<usize>) -> Result<(), Stopped> {
+pub fn run(checker: &mut Checker, random: &mut Random, size: usize) -> Result<(), Stopped> {
     checker.lines(&edges(random))?;
-    while checker.tally.compared + checker.tally.skipped < cases.unwrap_or(CASES) {
+    let before = checker.compared();
+    while checker.compared() < before + size {
         checker.lines(&[any(random)])?;
     }
     Ok(())

@@ -3,23 +3,21 @@
 use oracle::Oracle;
 use protocol::{answer, Proxy, ProxyLook};
 
-use crate::checker::{Checker, Stopped};
-use crate::random::Random;
+use crate::checker::{Checker, Stopped, EXHAUSTIVE};
 use crate::side::Line;
 use crate::small_proxies;
+use protocol::Random;
 
-const CASES: usize = 1_000_000;
 /// The longest range of the stated domain.
 const LONGEST_RANGE: i64 = 4096;
 
-pub fn run(checker: &mut Checker, random: &mut Random, cases: Option<usize>) -> Result<(), Stopped> {
-    let cases = cases.unwrap_or(CASES);
-    if cases >= CASES {
-        small_proxies::every_state(checker)?;
+pub fn run(checker: &mut Checker, random: &mut Random, size: usize) -> Result<(), Stopped> {
+    if size >= EXHAUSTIVE {
+        small_proxies::every_proxy(checker)?;
         small_proxies::full_tables(checker)?;
     }
-    let before = checker.tally.compared + checker.tally.skipped;
-    while checker.tally.compared + checker.tally.skipped < before + cases {
+    let before = checker.compared();
+    while checker.compared() < before + size {
         checker.case(&chain(random))?;
     }
     Ok(())

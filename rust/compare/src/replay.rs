@@ -1,13 +1,12 @@
 //! Files of replay lines, for the port's replay program and the oracle's.
 
 use std::io::{Read, Write};
+use std::path::PathBuf;
 use std::process::{Command, Stdio};
 
 use crate::checker::{Checker, Stopped};
-use crate::random::Random;
 use crate::side::{Line, Side};
-
-const CASES: usize = 2_000;
+use protocol::Random;
 
 /// The file of a script. Whether the last line keeps its line feed is a matter of its bytes, so that the script says
 /// it all.
@@ -48,11 +47,11 @@ impl Side for OracleReplay {
 }
 
 /// The port's program, started anew for each file.
-pub struct ReplayProgram(String);
+pub struct ReplayProgram(PathBuf);
 
 impl ReplayProgram {
-    pub fn new(path: &str) -> Self {
-        Self(path.to_string())
+    pub fn new(path: PathBuf) -> Self {
+        Self(path)
     }
 
     fn output(&self, input: Vec<u8>) -> std::io::Result<Vec<u8>> {
@@ -84,19 +83,9 @@ impl Side for ReplayProgram {
     }
 }
 
-/// Where no program was named.
-pub struct NoReplay;
-
-impl Side for NoReplay {
-    fn run(&mut self, script: &[Line]) -> Vec<String> {
-        vec!["err not here yet".to_string(); script.len()]
-    }
-}
-
-pub fn run(checker: &mut Checker, random: &mut Random, cases: Option<usize>) -> Result<(), Stopped> {
-    for _ in 0..cases.unwrap_or(CASES) {
+pub fn run(checker: &mut Checker, random: &mut Random, size: usize) -> Result<(), Stopped> {
+    while checker.compared() < size {
         checker.case(&any_file(random))?;
-        checker.tally.event("files", 1);
     }
     Ok(())
 }
@@ -152,7 +141,7 @@ fn spoil(random: &mut Random, line: &mut Line) {
     match random.below(7) {
         0 => line.clear(),
         1 => line.truncate(random.index(line.len())),
-        2 => line.push(random.pick(&[b'0', b' ', b'\r', b'g'])),
+        2 => line.push(random.pick(b"0 \rg")),
         3 => line.insert(0, b' '),
         4 => line.extend(vec![b'0'; random.index(5000)]),
         _ => {

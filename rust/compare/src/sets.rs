@@ -2,11 +2,10 @@
 
 use protocol::hex;
 
-use crate::checker::{Checker, Stopped};
-use crate::random::Random;
+use crate::checker::{Checker, Stopped, EXHAUSTIVE};
 use crate::side::Line;
+use protocol::Random;
 
-const CASES: usize = 1_000_000;
 const ORDERS: [&str; 2] = ["big", "little"];
 /// The longest set on the wire.
 const LONGEST: usize = 8 + 4 + 32;
@@ -78,18 +77,17 @@ impl Set {
     }
 }
 
-pub fn run(checker: &mut Checker, random: &mut Random, cases: Option<usize>) -> Result<(), Stopped> {
-    let cases = cases.unwrap_or(CASES);
-    if cases >= CASES {
+pub fn run(checker: &mut Checker, random: &mut Random, size: usize) -> Result<(), Stopped> {
+    if size >= EXHAUSTIVE {
         short_inputs(checker)?;
         every_cut(checker, random)?;
         every_small_walk(checker)?;
         every_small_list(checker)?;
     }
-    for _ in 0..cases {
+    let before = checker.compared();
+    while checker.compared() < before + size {
         let width = random.pick(&WIDTHS);
         let set = any_set(random, &width);
-        checker.tally.event("sets", 1);
         checker.lines(&about(random, &width, &set))?;
     }
     Ok(())

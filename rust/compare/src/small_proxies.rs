@@ -1,12 +1,9 @@
 //! The writer proxy, exhaustively: every state over the numbers -1 to 6, and all pairs of calls from full tables.
 
-use std::collections::{HashSet, VecDeque};
-
-use oracle::Oracle;
-use protocol::answer;
-
 use crate::checker::{Checker, Stopped};
 use crate::side::Line;
+use crate::small_states::{every_state, shown};
+use crate::tally::Count;
 
 const NUMBERS: std::ops::RangeInclusive<i64> = -1..=6;
 const TIMES: [u64; 2] = [3, 4];
@@ -38,35 +35,12 @@ fn questions() -> Vec<Line> {
     lines
 }
 
-/// The state after a script.
-fn state(script: &[Line]) -> String {
-    let mut oracle = Oracle::new();
-    for line in script {
-        answer(&mut oracle, line);
-    }
-    answer(&mut oracle, b"px.dump A")
-}
-
 /// Every state that calls over the small numbers can reach; from each every call and every question.
-pub fn every_state(checker: &mut Checker) -> Result<(), Stopped> {
-    let (changes, questions) = (changes(), questions());
-    let start = vec![line("px.new A".to_string())];
-    let mut seen = HashSet::from([state(&start)]);
-    let mut open = VecDeque::from([start]);
-    while let Some(script) = open.pop_front() {
-        checker.case(&[script.as_slice(), &questions].concat())?;
-        for change in &changes {
-            let mut next = script.clone();
-            next.push(change.clone());
-            next.push(line("px.dump A".to_string()));
-            checker.case(&next)?;
-            next.pop();
-            if seen.insert(state(&next)) {
-                open.push_back(next);
-            }
-        }
-    }
-    checker.tally.event("states over the numbers -1 to 6", seen.len());
+pub fn every_proxy(checker: &mut Checker) -> Result<(), Stopped> {
+    let shows = [line("px.dump A".to_string())];
+    let new = line("px.new A".to_string());
+    let states = every_state(checker, new, &changes(), &questions(), &shows)?;
+    checker.tally.add(Count::SmallProxies, states);
     Ok(())
 }
 
@@ -95,8 +69,8 @@ fn tables() -> Vec<Vec<Line>> {
 
 /// Calls aimed at a table's base, its ends and its middle.
 fn calls_at(table: &[Line]) -> Vec<Line> {
-    let dump = state(table);
-    let mut words = dump.split(' ').skip(1);
+    let dump = shown(table, &[line("px.dump A".to_string())]);
+    let mut words = dump[0].split(' ').skip(1);
     let base: i64 = words.next().and_then(|word| word.parse().ok()).unwrap_or(1);
     let number = |word: &str| word.split(':').next().and_then(|number| number.parse().ok());
     let tracked: Vec<i64> = words.skip(2).filter_map(number).collect();
@@ -133,7 +107,7 @@ pub fn full_tables(checker: &mut Checker) -> Result<(), Stopped> {
                 let dump = line("px.dump A".to_string());
                 let pair = [first.clone(), second.clone(), dump];
                 checker.case(&[table.as_slice(), &pair].concat())?;
-                checker.tally.event("pairs of calls at a full table", 1);
+                checker.tally.add(Count::FullTablePairs, 1);
             }
         }
     }

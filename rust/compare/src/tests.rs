@@ -4,9 +4,9 @@ use oracle::Oracle;
 use protocol::answer;
 
 use crate::checker::{Checker, Stopped};
-use crate::random::Random;
 use crate::side::{InProcess, Line, Side};
 use crate::{assembler, numbers, proxy, sets};
+use protocol::Random;
 
 /// The oracle with a fault: what it says is changed by what was said before.
 struct Faulty<F>(Oracle, F);
@@ -18,12 +18,12 @@ impl<F: FnMut(&str, String) -> String> Side for Faulty<F> {
     }
 }
 
-type Run = fn(&mut Checker, &mut Random, Option<usize>) -> Result<(), Stopped>;
+type Run = fn(&mut Checker, &mut Random, usize) -> Result<(), Stopped>;
 
 fn found(run: Run, cases: usize, fault: impl FnMut(&str, String) -> String + 'static) -> Vec<String> {
     let oracle = Box::new(InProcess(Oracle::new()));
     let mut checker = Checker::new("test", Box::new(Faulty(Oracle::new(), fault)), oracle);
-    match run(&mut checker, &mut Random::new(5), Some(cases)) {
+    match run(&mut checker, &mut Random::new(5), cases) {
         Err(Stopped::Different { script, .. }) => {
             let text = |line: &Line| String::from_utf8_lossy(line).into_owned();
             script.iter().map(text).collect()
@@ -37,8 +37,8 @@ fn no_fault_no_difference() {
     for run in [numbers::run, sets::run, proxy::run, assembler::run] {
         let oracle = || Box::new(InProcess(Oracle::new()));
         let mut checker = Checker::new("test", oracle(), oracle());
-        run(&mut checker, &mut Random::new(5), Some(3000)).unwrap();
-        assert!(checker.tally.compared >= 3000);
+        run(&mut checker, &mut Random::new(5), 3000).unwrap();
+        assert!(checker.compared() >= 3000);
     }
 }
 

@@ -1,165 +1,177 @@
 //! Samples of one writer put together from fragments, in an area of 129 places.
 
-use crate::record::assembler::{fragment_size, place_size, taken, PLACES, WORDS};
-use crate::{accepted, ffi, Refused};
+use crate::ffi::{AssemblerRecord, FragmentAnswer, FragmentCall};
+use crate::record::assembler::{fragment_size, place_size, taken};
+use crate::{accepted, Refused};
+
+/// How many places an area has; one fewer samples stay in assembly.
+pub const PLACES: usize = 129;
 
 /// A fragment submessage, as far as the assembler reads it.
 #[derive(Debug, Clone, Copy)]
 pub struct DataFrag<'a> {
+    /// The sample's number.
     pub writer_sn: i64,
+    /// The first fragment, from 1.
     pub fragment_starting_num: u32,
+    /// How many fragments the payload has.
     pub fragments_in_submessage: u16,
+    /// The sample's length; looked at where the fragment opens the sample.
     pub data_size: u32,
+    /// The writer's fragment size.
     pub fragment_size: u16,
+    /// The fragments' bytes.
     pub serialized_payload: &'a [u8],
 }
 
-/// What became of which number.
-#[derive(Debug, Clone, Copy, PartialEq, Eq)]
+/// What an accepted fragment brought about.
+#[derive(Debug, Clone, Copy, PartialEq, Eq, Hash)]
 pub enum Outcome {
+    /// The sample waits for more.
     Kept,
-    Returned { number: u64, place: usize, length: u32 },
-    Dropped { number: u64 },
+    /// The sample is whole: [`FragmentAssembler::view`] shows it until the next fragment.
+    Returned {
+        /// Its number.
+        number: u64,
+        /// Where it lies.
+        place: usize,
+        /// Its length.
+        length: u32,
+    },
+    /// 129 were in assembly: this one was dropped, the highest where reliable, else the lowest.
+    Dropped {
+        /// Its number.
+        number: u64,
+    },
 }
 
 /// A sample in assembly.
-#[derive(Debug, Clone, Copy, PartialEq, Eq)]
+#[derive(Debug, Clone, Copy, PartialEq, Eq, Hash)]
 pub struct InAssembly {
+    /// Its number.
     pub number: i64,
+    /// Where it lies.
     pub place: usize,
+    /// Its length.
     pub size: u64,
+    /// How many fragments it has.
     pub fragments: u64,
+    /// The time of its last fragment.
     pub time: u64,
 }
 
+/// Assembles the samples of one writer, which has one fragment size. It owns its area: [`PLACES`] places of the place
+/// size, the longest sample that it takes.
+///
+/// ```
+/// use drucenal::{DataFrag, FragmentAssembler, Outcome};
+///
+/// let mut assembler = FragmentAssembler::new(4, true, 1024)?;
+/// let fragment = |start, bytes| DataFrag {
+///     writer_sn: 1,
+///     fragment_starting_num: start,
+///     fragments_in_submessage: 1,
+///     data_size: 6,
+///     fragment_size: 4,
+///     serialized_payload: bytes,
+/// };
+/// assert_eq!(assembler.new_datafrag(10, &fragment(2, b"ef"))?, Outcome::Kept);
+/// let Outcome::Returned { place, length, .. } = assembler.new_datafrag(11, &fragment(1, b"abcd"))? else {
+///     panic!("the sample is whole");
+/// };
+/// assert_eq!(assembler.view(place, length as usize), b"abcdef");
+/// # Ok::<(), drucenal::Refused>(())
+/// ```
+#[derive(Clone)]
 pub struct FragmentAssembler {
-    words: Box<[u64; WORDS]>,
+    record: AssemblerRecord,
     area: Vec<u8>,
 }
 
 impl FragmentAssembler {
-    /// With an area of its own. Refusal 14.
+    /// With an area of zeros. Refusal 14.
     pub fn new(fragment_size: u16, reliable: bool, place_size: u32) -> Result<Self, Refused> {
-        let mut words = Box::new([0; WORDS]);
-        // SAFETY: pointer and length are those of one slice.
-        accepted(unsafe {
-            ffi::drucenal_assembler_set_up(words.as_mut_ptr(), WORDS, fragment_size, reliable, place_size)
-        })?;
-        let area = vec![0; PLACES * place_size as usize];
-        Ok(Self { words, area })
+        let mut assembler = Self::with_area(fragment_size, reliable, place_size, Vec::new())?;
+        assembler.area = vec![0; PLACES * place_size as usize];
+        Ok(assembler)
     }
 
-    /// The area: any bytes do, and one too short makes the fragment call refuse with 13.
+    /// With this area: any bytes do. Refusal 14; where it is shorter than 129 places, each fragment is refused with 13.
+    pub fn with_area(fragment_size: u16, reliable: bool, place_size: u32, area: Vec<u8>) -> Result<Self, Refused> {
+        let record = AssemblerRecord::set_up(fragment_size, reliable, place_size).map_err(Refused)?;
+        Ok(Self { record, area })
+    }
+
+    /// The area as it stands.
+    #[inline]
     pub fn area(&self) -> &[u8] {
         &self.area
     }
 
-    pub fn area_mut(&mut self) -> &mut Vec<u8> {
-        &mut self.area
+    /// Record and area, for the library's calls as they are.
+    #[inline]
+    pub fn parts_mut(&mut self) -> (&mut AssemblerRecord, &mut Vec<u8>) {
+        (&mut self.record, &mut self.area)
     }
-
-    // SAFETY of the calls below: the words are a record of WORDS words that came from set-up and calls; area, payload
-    // and lists are passed by pointer and length of one slice, and whatever a pointer leads to outlives the call.
 
     /// A fragment came at this time. Refusals 13, 4, 6, 7, 8, 9, 10, 11, 12.
+    #[inline]
     pub fn new_datafrag(&mut self, time: u64, datafrag: &DataFrag) -> Result<Outcome, Refused> {
-        self.new_datafrag_lending(self.area.len(), time, datafrag)
-    }
-
-    /// The same, with only the area's first bytes lent.
-    pub fn new_datafrag_lending(&mut self, lent: usize, time: u64, datafrag: &DataFrag) -> Result<Outcome, Refused> {
-        let (mut what, mut of, mut place, mut length) = (0, 0, 0, 0);
-        let lent = lent.min(self.area.len());
-        let area = &mut self.area[..lent];
-        let payload = datafrag.serialized_payload;
-        accepted(unsafe {
-            ffi::drucenal_assembler_new_datafrag(
-                self.words.as_mut_ptr(),
-                WORDS,
-                area.as_mut_ptr(),
-                area.len(),
-                time,
-                datafrag.writer_sn,
-                datafrag.fragment_size,
-                datafrag.data_size,
-                datafrag.fragment_starting_num,
-                datafrag.fragments_in_submessage,
-                payload.as_ptr(),
-                payload.len(),
-                &mut what,
-                &mut of,
-                &mut place,
-                &mut length,
-            )
-        })?;
-        Ok(match what {
-            0 => Outcome::Kept,
-            1 => Outcome::Returned {
-                number: of,
-                place,
-                length,
-            },
-            _ => Outcome::Dropped { number: of },
-        })
+        let call = FragmentCall {
+            time,
+            number: datafrag.writer_sn,
+            size: datafrag.fragment_size,
+            data_size: datafrag.data_size,
+            start: datafrag.fragment_starting_num,
+            count: datafrag.fragments_in_submessage,
+            payload: datafrag.serialized_payload,
+        };
+        let mut answer = FragmentAnswer {
+            what: 0,
+            of: 0,
+            place: 0,
+            length: 0,
+        };
+        accepted(self.record.new_datafrag(&mut self.area, &call, &mut answer))?;
+        Ok(answer.into())
     }
 
     /// A part of the area, by place and length: a returned sample, until the next fragment. Empty where it would pass
     /// the area's end.
+    #[inline]
     pub fn view(&self, place: usize, length: usize) -> &[u8] {
-        let shown = unsafe {
-            ffi::drucenal_assembler_view(
-                self.words.as_ptr(),
-                WORDS,
-                self.area.as_ptr(),
-                self.area.len(),
-                place,
-                length,
-            )
-        };
-        let from = place.saturating_mul(place_size(&self.words));
-        self.area.get(from..from.saturating_add(shown)).unwrap_or_default()
+        let shown = self.record.view(&self.area, place, length);
+        let from = place.wrapping_mul(place_size(&self.record));
+        self.area.get(from..from.wrapping_add(shown)).unwrap_or_default()
     }
 
-    /// Drops what was last changed before this time, and lists it, rising: how many. Refusal 3.
+    /// Drops what was last changed before this time, and lists it, rising: how many, 128 at most. Refusal 3.
+    #[inline]
     pub fn garbage_collect_before(&mut self, expire_before: u64, out: &mut [i64]) -> Result<usize, Refused> {
         let mut listed = 0;
-        accepted(unsafe {
-            ffi::drucenal_assembler_garbage_collect_before(
-                self.words.as_mut_ptr(),
-                WORDS,
-                expire_before,
-                out.as_mut_ptr(),
-                out.len(),
-                &mut listed,
-            )
-        })?;
+        accepted(self.record.garbage_collect_before(expire_before, out, &mut listed))?;
         Ok(listed)
     }
 
-    /// The missing fragments of a sample, numbered from 1, rising: how many. Refusal 3.
+    /// The missing fragments of a sample, numbered from 1, rising: how many, none where it is not in assembly.
+    /// Refusal 3.
+    #[inline]
     pub fn missing_frags_for(&self, number: i64, out: &mut [u32]) -> Result<usize, Refused> {
         let mut listed = 0;
-        accepted(unsafe {
-            ffi::drucenal_assembler_missing_frags_for(
-                self.words.as_ptr(),
-                WORDS,
-                number,
-                out.as_mut_ptr(),
-                out.len(),
-                &mut listed,
-            )
-        })?;
+        accepted(self.record.missing_frags_for(number, out, &mut listed))?;
         Ok(listed)
     }
 
+    /// Whether the number is in assembly.
+    #[inline]
     pub fn is_partially_received(&self, number: i64) -> bool {
-        unsafe { ffi::drucenal_assembler_is_partially_received(self.words.as_ptr(), WORDS, number) }
+        self.record.is_partially_received(number)
     }
 
     /// What is in assembly, by place.
     pub fn in_assembly(&self) -> impl Iterator<Item = InAssembly> + '_ {
-        let unit = fragment_size(&self.words).max(1);
-        taken(&self.words).map(move |(place, number, size, time)| InAssembly {
+        let unit = fragment_size(&self.record).max(1);
+        taken(&self.record).map(move |(place, number, size, time)| InAssembly {
             number,
             place,
             size,
@@ -168,9 +180,33 @@ impl FragmentAssembler {
         })
     }
 
-    /// The bytes of a sample in assembly.
+    /// The bytes of a sample in assembly: those of missing fragments are zero.
     pub fn bytes_of(&self, sample: &InAssembly) -> &[u8] {
-        let from = sample.place * place_size(&self.words);
-        self.area.get(from..from + sample.size as usize).unwrap_or_default()
+        self.view(sample.place, sample.size as usize)
+    }
+}
+
+impl From<FragmentAnswer> for Outcome {
+    #[inline]
+    fn from(answer: FragmentAnswer) -> Self {
+        match answer.what {
+            0 => Self::Kept,
+            1 => Self::Returned {
+                number: answer.of,
+                place: answer.place,
+                length: answer.length,
+            },
+            _ => Self::Dropped { number: answer.of },
+        }
+    }
+}
+
+impl std::fmt::Debug for FragmentAssembler {
+    fn fmt(&self, out: &mut std::fmt::Formatter<'_>) -> std::fmt::Result {
+        out.debug_struct("FragmentAssembler")
+            .field("fragment_size", &fragment_size(&self.record))
+            .field("place_size", &place_size(&self.record))
+            .field("in_assembly", &self.in_assembly().count())
+            .finish()
     }
 }

@@ -1,141 +1,175 @@
 //! What came from one writer, what is missing, and what may be acknowledged.
 
-use crate::record::proxy::{tracked, WORDS};
-use crate::{accepted, ffi, Refused};
+use crate::ffi::{next_ack_nack_sequence_number, ProxyRecord};
+use crate::record::proxy::tracked;
+use crate::{accepted, Refused};
 
-/// The table was full, and the base was forced on.
-#[derive(Debug, Clone, Copy, PartialEq, Eq)]
+/// 257 numbers would have been tracked: the lowest were given up, and the base was forced on.
+#[derive(Debug, Clone, Copy, PartialEq, Eq, Hash)]
 pub struct ForcedStep {
+    /// The base before.
     pub old: u64,
+    /// The base after.
     pub new: u64,
 }
 
-#[derive(Debug, Clone, Copy, PartialEq, Eq)]
+/// What a proxy tracks of a number.
+#[derive(Debug, Clone, Copy, PartialEq, Eq, Hash)]
 pub enum ChangeStatus {
+    /// Nothing.
     Untracked,
+    /// It will not come.
     NotAvailable,
+    /// It came, at this time.
     Received(u64),
 }
 
+/// The reader's side of one writer: the ack base, the numbers tracked above it, and the last received number. A time
+/// is any 64 bits of the caller's.
+///
+/// ```
+/// use drucenal::{ChangeStatus, ForcedStep, RtpsWriterProxy};
+///
+/// let mut proxy = RtpsWriterProxy::new();
+/// for number in 2..=257 {
+///     assert_eq!(proxy.received_changes_add(number, 7), Ok(None));
+/// }
+/// assert_eq!(proxy.all_ackable_before(), 1);
+/// // One more than 256: 1 and 2 are given up, and the call says so.
+/// assert_eq!(proxy.received_changes_add(258, 8), Ok(Some(ForcedStep { old: 1, new: 3 })));
+/// assert_eq!(proxy.change_status(3), ChangeStatus::Received(7));
+/// ```
+#[derive(Clone, Default)]
 pub struct RtpsWriterProxy {
-    words: Box<[u64; WORDS]>,
+    record: ProxyRecord,
+    /// The count that the next acknack is given.
     pub sent_ack_nack_count: i32,
 }
 
-impl Default for RtpsWriterProxy {
-    fn default() -> Self {
-        Self::new()
-    }
-}
-
 impl RtpsWriterProxy {
+    /// Nothing came yet: the base is 1.
+    #[inline]
     pub fn new() -> Self {
-        let mut words = Box::new([0; WORDS]);
-        // SAFETY: pointer and length are those of one slice.
-        let refused = unsafe { ffi::drucenal_proxy_set_up(words.as_mut_ptr(), WORDS) };
-        assert_eq!(refused, 0, "a record of the right length is always set up");
-        Self {
-            words,
-            sent_ack_nack_count: 0,
-        }
+        Self::default()
+    }
+
+    /// The record, for the library's calls as they are.
+    #[inline]
+    pub fn record(&self) -> &ProxyRecord {
+        &self.record
+    }
+
+    /// The record, for the library's calls as they are.
+    #[inline]
+    pub fn record_mut(&mut self) -> &mut ProxyRecord {
+        &mut self.record
     }
 
     /// One call that changes the record: the forced step, if there was one.
+    #[inline]
     fn change(
         &mut self,
-        call: impl FnOnce(*mut u64, *mut u64, *mut u64) -> u32,
+        call: impl FnOnce(&mut ProxyRecord, &mut u64, &mut u64) -> u32,
     ) -> Result<Option<ForcedStep>, Refused> {
         let (mut old, mut new) = (0, 0);
-        accepted(call(self.words.as_mut_ptr(), &mut old, &mut new))?;
-        let step = ForcedStep { old, new };
-        Ok((step != ForcedStep { old: 0, new: 0 }).then_some(step))
+        accepted(call(&mut self.record, &mut old, &mut new))?;
+        // A base is never 0: both are, where there was no step.
+        Ok((new != 0).then_some(ForcedStep { old, new }))
     }
 
-    // SAFETY of the calls below: the words are a record of WORDS words that came from set-up and calls; lists are
-    // passed by pointer and length of one slice, and whatever a pointer leads to outlives the call.
-
     /// DATA with this number came at this time. Refusal 4.
+    #[inline]
     pub fn received_changes_add(&mut self, number: i64, time: u64) -> Result<Option<ForcedStep>, Refused> {
-        self.change(|words, old, new| unsafe {
-            ffi::drucenal_proxy_received_changes_add(words, WORDS, number, time, old, new)
-        })
+        self.change(|record, old, new| record.received_changes_add(number, time, old, new))
     }
 
     /// One number is not available. Refusal 4.
+    #[inline]
     pub fn set_irrelevant_change(&mut self, number: i64) -> Result<Option<ForcedStep>, Refused> {
-        self.change(|words, old, new| unsafe {
-            ffi::drucenal_proxy_set_irrelevant_change(words, WORDS, number, old, new)
-        })
+        self.change(|record, old, new| record.set_irrelevant_change(number, old, new))
     }
 
     /// No number of the range is available. Refusal 5.
+    #[inline]
     pub fn irrelevant_changes_range(&mut self, from: i64, until_before: i64) -> Result<Option<ForcedStep>, Refused> {
-        self.change(|words, old, new| unsafe {
-            ffi::drucenal_proxy_irrelevant_changes_range(words, WORDS, from, until_before, old, new)
-        })
+        self.change(|record, old, new| record.irrelevant_changes_range(from, until_before, old, new))
     }
 
     /// No number below this one is available. Refusal 5.
+    #[inline]
     pub fn irrelevant_changes_up_to(&mut self, smallest: i64) -> Result<Option<ForcedStep>, Refused> {
-        self.change(|words, old, new| unsafe {
-            ffi::drucenal_proxy_irrelevant_changes_up_to(words, WORDS, smallest, old, new)
-        })
+        self.change(|record, old, new| record.irrelevant_changes_up_to(smallest, old, new))
     }
 
-    /// Everything below this number can be acknowledged.
+    /// The ack base: everything below it can be acknowledged.
+    #[inline]
     pub fn all_ackable_before(&self) -> u64 {
-        unsafe { ffi::drucenal_proxy_all_ackable_before(self.words.as_ptr(), WORDS) }
+        self.record.all_ackable_before()
     }
 
+    /// Whether the number is below the base or tracked: it came already, or will not come.
+    #[inline]
     pub fn should_ignore_change(&self, number: i64) -> bool {
-        unsafe { ffi::drucenal_proxy_should_ignore_change(self.words.as_ptr(), WORDS, number) }
+        self.record.should_ignore_change(number)
     }
 
+    /// What is tracked of a number: nothing is, below the base.
+    #[inline]
     pub fn change_status(&self, number: i64) -> ChangeStatus {
         let mut time = 0;
-        match unsafe { ffi::drucenal_proxy_change_status(self.words.as_ptr(), WORDS, number, &mut time) } {
+        match self.record.change_status(number, &mut time) {
             0 => ChangeStatus::Untracked,
             1 => ChangeStatus::NotAvailable,
             _ => ChangeStatus::Received(time),
         }
     }
 
-    /// The last received number and its time.
+    /// The highest number received, and its time; none where none was.
+    #[inline]
     pub fn last_received(&self) -> Option<(u64, u64)> {
         let mut time = 0;
-        match unsafe { ffi::drucenal_proxy_last_received(self.words.as_ptr(), WORDS, &mut time) } {
+        match self.record.last_received(&mut time) {
             0 => None,
             number => Some((number, time)),
         }
     }
 
+    /// The time of the highest number received.
+    #[inline]
     pub fn last_change_timestamp(&self) -> Option<u64> {
         self.last_received().map(|(_, time)| time)
     }
 
-    /// What is missing of a heartbeat's numbers, to the list's first entries: how many. Refusals 4 and 3.
+    /// What is missing of a heartbeat's numbers, rising, to the list's first entries: how many. Refusals 4 and 3.
+    ///
+    /// At most 256 numbers are tracked, so a list of 512 has room for the missing ones of any 512 numbers, and among
+    /// those from the base on there are the 256 that an acknack can ask for.
+    #[inline]
     pub fn missing_seqnums(&self, start: i64, end: i64, out: &mut [i64]) -> Result<usize, Refused> {
         let mut listed = 0;
-        accepted(unsafe {
-            ffi::drucenal_proxy_missing_seqnums(
-                self.words.as_ptr(),
-                WORDS,
-                start,
-                end,
-                out.as_mut_ptr(),
-                out.len(),
-                &mut listed,
-            )
-        })?;
+        accepted(self.record.missing_seqnums(start, end, out, &mut listed))?;
         Ok(listed)
     }
 
+    /// The count for an acknack; after 2,147,483,647 comes -2,147,483,648.
+    #[inline]
     pub fn next_ack_nack_sequence_number(&mut self) -> i32 {
-        unsafe { ffi::drucenal_next_ack_nack_sequence_number(&mut self.sent_ack_nack_count) }
+        next_ack_nack_sequence_number(&mut self.sent_ack_nack_count)
     }
 
     /// The tracked numbers, rising, with their time where received.
     pub fn tracked(&self) -> impl Iterator<Item = (i64, Option<u64>)> + '_ {
-        tracked(&self.words)
+        tracked(&self.record)
+    }
+}
+
+impl std::fmt::Debug for RtpsWriterProxy {
+    fn fmt(&self, out: &mut std::fmt::Formatter<'_>) -> std::fmt::Result {
+        out.debug_struct("RtpsWriterProxy")
+            .field("all_ackable_before", &self.all_ackable_before())
+            .field("last_received", &self.last_received())
+            .field("tracked", &self.tracked().count())
+            .field("sent_ack_nack_count", &self.sent_ack_nack_count)
+            .finish()
     }
 }

@@ -1,13 +1,18 @@
 //! The call protocol, shared by every program that speaks it: what can be asked (`port`), how a line is read
-//! (`tokens`), how it is answered (`answer`), and the loop from input to output (`serve`).
+//! (`tokens`), how it is answered (`answer`), and the loop from input to output (`serve`). Beside it what the programs
+//! that compare and time share: seeded numbers (`random`), and where the port's replay program is (`replay_program`).
 
 mod answer;
 mod port;
+mod random;
+mod replay_program;
 mod serve;
 mod tokens;
 
 pub use answer::answer;
 pub use port::*;
+pub use random::Random;
+pub use replay_program::replay_program;
 pub use serve::{serve, LONGEST_LINE};
 pub use tokens::{hex, unhex};
 

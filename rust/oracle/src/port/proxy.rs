@@ -68,6 +68,11 @@ impl Oracle {
         }
     }
 
+    /// The ack base.
+    pub fn base(&mut self) -> Reply<i64> {
+        Ok(self.held()?.base())
+    }
+
     /// A call of the proxy; after a panic it is gone.
     fn on_proxy<T>(&mut self, call: impl FnOnce(&mut Held) -> Reply<T>) -> Reply<T> {
         let reply = call(self.held()?);

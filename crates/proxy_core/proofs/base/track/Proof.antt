@@ -30,7 +30,7 @@ returns : tie.Need-returns
 returns c =
     let s = c .before .before .before .before .before .before .before .before .before .before .before .before .before .before .before in
     let a = s .args in
-    track-base (a .t .now) (s .pre .0) (entryOf (a .n) (a .kind) (a .time)) (s .pre .2) (s .pre .3) _ (c .before .before .before .before .before .before .before .before .before .before .before .put .ensures) _ _ _ (c .before .before .before .before .before .before .advance-ack-base .ensures) (c .before .before .before .before .before .before .before .before .if1 .taken) (c .before .before .enforce-change-map-cap .ensures)
+    track-base (a .t .now) (s .pre .0) (entryOf (a .n) (a .kind) (a .time)) (s .pre .2) (s .pre .3) _ (c .before .before .before .before .before .before .before .before .before .before .before .put .ensures) (c .before .before .enforce-change-map-cap .result) _ _ (c .before .before .before .before .before .before .advance-ack-base .ensures) (c .before .before .before .before .before .before .before .before .if1 .taken) (c .before .before .enforce-change-map-cap .ensures)
 
 enforce-change-map-cap-requires-2 : tie.Need-enforce-change-map-cap-requires-2
 enforce-change-map-cap-requires-2 c κs =
@@ -45,7 +45,7 @@ returns-2 : tie.Need-returns-2
 returns-2 c =
     let s = c .before .before .before .before .before .before .before .before .before .before .before in
     let a = s .args in
-    track-above (a .t .now) (s .pre .0) (entryOf (a .n) (a .kind) (a .time)) (s .pre .2) (s .pre .3) _ (c .before .before .before .before .before .before .before .put .ensures) _ _ (c .before .before .before .before .if1 .left) (c .before .before .enforce-change-map-cap2 .ensures)
+    track-above (a .t .now) (s .pre .0) (entryOf (a .n) (a .kind) (a .time)) (s .pre .2) (s .pre .3) _ (c .before .before .before .before .before .before .before .put .ensures) (c .before .before .enforce-change-map-cap2 .result) _ (c .before .before .before .before .if1 .left) (c .before .before .enforce-change-map-cap2 .ensures)
 
 pub track-spec : {M : Type 1} → statement M
 track-spec =

@@ -33,7 +33,7 @@ same-length-2 c = search needs
 returns-2 : tie.Need-returns-2
 returns-2 c =
     let s = c .before .before .before .before .before .before .before .before .before .before .before in
-    received-above (s .args .n) (s .args .time) (s .args .t .now) _ (s .pre .0) (s .pre .1) (c .before .before .before .before .before .before .before .before .note .ensures) _ _ (c .before .before .track .ensures)
+    received-above (s .args .n) (s .args .time) (s .args .t .now) _ (s .pre .0) (s .pre .1) (c .before .before .before .before .before .before .before .before .note .ensures) (c .before .before .track .result) _ (c .before .before .track .ensures)
 
 pub received-any-spec : {M : Type 1} → statement M
 received-any-spec =

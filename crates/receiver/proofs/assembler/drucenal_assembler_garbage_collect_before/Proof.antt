@@ -1,7 +1,7 @@
 -- `receiver::assembler::drucenal_assembler_garbage_collect_before` meets its contract: the answer from below, handed on.
 -- Assumes nothing.
 use Rattle.receiver.proofs.AssemblerLaws.{cleans-out}
-use Rattle.fragment_assembler.specs.Clean.{toldOf}
+use Rattle.fragment_assembler.specs.Clean.{cleanedOf}
 use mathlib.Core.Path.{ap}
 use borrow.Author.Needs.{needs}
 use Rattle.receiver.proofs.assembler.drucenal_assembler_garbage_collect_before.Statement.{
@@ -28,7 +28,7 @@ same-length-2 : tie.Need-same-length-2
 same-length-2 c = search needs
 
 returns : tie.Need-returns
-returns c = cleans-out (c .before .before .before .before .before .before .before .before .before .before .args .listed .now) _ (ap toldOf (c .before .n .given .1)) (c .before .before .before .before .before .before .garbage-collect-before .ensures)
+returns c = cleans-out (c .before .before .before .before .before .before .before .before .before .before .args .listed .now) _ (ap cleanedOf (c .before .n .given .1)) (c .before .before .before .before .before .before .garbage-collect-before .ensures)
 
 same-length-3 : tie.Need-same-length-3
 same-length-3 c = search needs
@@ -37,7 +37,7 @@ same-length-4 : tie.Need-same-length-4
 same-length-4 c = search needs
 
 returns-2 : tie.Need-returns-2
-returns-2 c = cleans-out (c .before .before .before .before .before .before .before .before .before .before .args .listed .now) _ (ap toldOf (c .before .n2 .given .1)) (c .before .before .before .before .before .before .garbage-collect-before .ensures)
+returns-2 c = cleans-out (c .before .before .before .before .before .before .before .before .before .before .args .listed .now) _ (ap cleanedOf (c .before .n2 .given .1)) (c .before .before .before .before .before .before .garbage-collect-before .ensures)
 
 pub drucenal-assembler-garbage-collect-before-spec : {M : Type 1} → statement M
 drucenal-assembler-garbage-collect-before-spec =

@@ -1,7 +1,7 @@
 -- `receiver::assembler::drucenal_assembler_missing_frags_for` meets its contract: the answer from below, handed on.
 -- Assumes nothing.
 use Rattle.receiver.proofs.AssemblerLaws.{misses-out}
-use Rattle.fragment_assembler.specs.Missing.{toldOf}
+use Rattle.fragment_assembler.specs.Missing.{listedOf}
 use Rattle.sequence_number.specs.Number.{numberOf}
 use mir.Facts.{toZ-ofZ}
 use mathlib.Core.Path.{ap}
@@ -28,14 +28,14 @@ same-length c = search needs
 
 returns : tie.Need-returns
 returns c =
-    misses-out (c .before .before .before .before .before .before .before .before .before .args .listed .now) _ (ap toldOf (c .before .n .given .1)) (ap numberOf (toZ-ofZ (c .before .before .before .before .before .before .before .before .before .fits .number))) (c .before .before .before .before .before .missing-frags-for .ensures)
+    misses-out (c .before .before .before .before .before .before .before .before .before .args .listed .now) _ (ap listedOf (c .before .n .given .1)) (ap numberOf (toZ-ofZ (c .before .before .before .before .before .before .before .before .before .fits .number))) (c .before .before .before .before .before .missing-frags-for .ensures)
 
 same-length-2 : tie.Need-same-length-2
 same-length-2 c = search needs
 
 returns-2 : tie.Need-returns-2
 returns-2 c =
-    misses-out (c .before .before .before .before .before .before .before .before .before .args .listed .now) _ (ap toldOf (c .before .n2 .given .1)) (ap numberOf (toZ-ofZ (c .before .before .before .before .before .before .before .before .before .fits .number))) (c .before .before .before .before .before .missing-frags-for .ensures)
+    misses-out (c .before .before .before .before .before .before .before .before .before .args .listed .now) _ (ap listedOf (c .before .n2 .given .1)) (ap numberOf (toZ-ofZ (c .before .before .before .before .before .before .before .before .before .fits .number))) (c .before .before .before .before .before .missing-frags-for .ensures)
 
 pub drucenal-assembler-missing-frags-for-spec : {M : Type 1} → statement M
 drucenal-assembler-missing-frags-for-spec =

@@ -1,9 +1,9 @@
 -- `receiver::proxy::drucenal_proxy_change_status` meets its contract: the answer from below, handed on.
 -- Assumes nothing.
-use Rattle.receiver.specs.ProxyExports.{statusTime}
-use Rattle.writer_proxy.specs.Answers.{statusNumberOf}
-use Rattle.writer_proxy.specs.Queries.{statusOf}
-use Rattle.writer_proxy.specs.declared.query.Status.{Status}
+use Rattle.receiver.specs.ProxyExports.{statusNumber, statusTime}
+use Rattle.writer_proxy.specs.Queries.{statusOf, shown}
+use Rattle.proxy_record.specs.Entries.{Mark}
+use mathlib.Core.Option.{Option}
 use Rattle.proxy_record.specs.Record.{stateOf}
 use mir.Facts.{toZ-ofZ}
 use lib.IntN.{ℤ}
@@ -27,20 +27,20 @@ enum-known-t c = search needs
 returns : tie.Need-returns
 returns c =
     let a = c .before .before .before .before .args in
-    let e = sym (c .enum-told .given .1) ∙ c .before .before .change-status .ensures ∙ ap (λ (z : ℤ). statusOf z (stateOf (a .words .now))) (toZ-ofZ (c .before .before .before .before .fits .number)) in
-    (ap statusNumberOf e, ap (λ (s : Status). statusTime s (a .time .now)) e)
+    let e = ap shown (sym (c .enum-told .given .1)) ∙ c .before .before .change-status .ensures ∙ ap (λ (z : ℤ). statusOf z (stateOf (a .words .now))) (toZ-ofZ (c .before .before .before .before .fits .number)) in
+    (ap statusNumber e, ap (λ (s : Option Mark). statusTime s (a .time .now)) e)
 
 returns-2 : tie.Need-returns-2
 returns-2 c =
     let a = c .before .before .before .before .args in
-    let e = sym (c .enum-told2 .given .1) ∙ c .before .before .change-status .ensures ∙ ap (λ (z : ℤ). statusOf z (stateOf (a .words .now))) (toZ-ofZ (c .before .before .before .before .fits .number)) in
-    (ap statusNumberOf e, ap (λ (s : Status). statusTime s (a .time .now)) e)
+    let e = ap shown (sym (c .enum-told2 .given .1)) ∙ c .before .before .change-status .ensures ∙ ap (λ (z : ℤ). statusOf z (stateOf (a .words .now))) (toZ-ofZ (c .before .before .before .before .fits .number)) in
+    (ap statusNumber e, ap (λ (s : Option Mark). statusTime s (a .time .now)) e)
 
 returns-3 : tie.Need-returns-3
 returns-3 c =
     let a = c .before .before .before .before .before .args in
-    let e = sym (c .before .t .given .1) ∙ c .before .before .before .change-status .ensures ∙ ap (λ (z : ℤ). statusOf z (stateOf (a .words .now))) (toZ-ofZ (c .before .before .before .before .before .fits .number)) in
-    (ap statusNumberOf e, ap (λ (s : Status). statusTime s (a .time .now)) e)
+    let e = ap shown (sym (c .before .t .given .1)) ∙ c .before .before .before .change-status .ensures ∙ ap (λ (z : ℤ). statusOf z (stateOf (a .words .now))) (toZ-ofZ (c .before .before .before .before .before .fits .number)) in
+    (ap statusNumber e, ap (λ (s : Option Mark). statusTime s (a .time .now)) e)
 
 pub drucenal-proxy-change-status-spec : {M : Type 1} → statement M
 drucenal-proxy-change-status-spec =

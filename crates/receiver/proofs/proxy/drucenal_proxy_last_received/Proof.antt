@@ -1,8 +1,9 @@
 -- `receiver::proxy::drucenal_proxy_last_received` meets its contract: the answer from below, handed on.
 -- Assumes nothing.
-use Rattle.receiver.specs.ProxyExports.{lastTime}
-use Rattle.writer_proxy.specs.Answers.{lastNumberOf}
-use Rattle.writer_proxy.specs.declared.query.Last.{Last}
+use Rattle.receiver.specs.ProxyExports.{lastNumber, lastTime}
+use Rattle.writer_proxy.specs.Queries.{lastShown}
+use Prim.Native.Nat.{ℕ}
+use mathlib.Core.Option.{Option}
 use mathlib.Core.Path.{ap, sym, _∙_}
 use borrow.Author.Needs.{needs}
 use Rattle.receiver.proofs.proxy.drucenal_proxy_last_received.Statement.{statement}
@@ -19,13 +20,13 @@ enum-known-n c = search needs
 
 returns : tie.Need-returns
 returns c =
-    let e = sym (c .enum-told .given .1) ∙ c .before .before .last-change .ensures in
-    (ap lastNumberOf e, ap (λ (l : Last). lastTime l (c .before .before .before .before .args .time .now)) e)
+    let e = ap lastShown (sym (c .enum-told .given .1)) ∙ c .before .before .last-change .ensures in
+    (ap lastNumber e, ap (λ (l : Option (ℕ × ℕ)). lastTime l (c .before .before .before .before .args .time .now)) e)
 
 returns-2 : tie.Need-returns-2
 returns-2 c =
-    let e = sym (c .before .n .given .1) ∙ c .before .before .before .last-change .ensures in
-    (ap lastNumberOf e, ap (λ (l : Last). lastTime l (c .before .before .before .before .before .args .time .now)) e)
+    let e = ap lastShown (sym (c .before .n .given .1)) ∙ c .before .before .before .last-change .ensures in
+    (ap lastNumber e, ap (λ (l : Option (ℕ × ℕ)). lastTime l (c .before .before .before .before .before .args .time .now)) e)
 
 pub drucenal-proxy-last-received-spec : {M : Type 1} → statement M
 drucenal-proxy-last-received-spec =

@@ -1,6 +1,7 @@
 -- `receiver::proxy::drucenal_proxy_set_up` meets its contract: the answer from below, handed on.
 -- Assumes nothing.
-use Rattle.writer_proxy.specs.Answers.{refusalOf}
+use Rattle.sequence_number.specs.Outcome.{refusal}
+use Rattle.proxy_core.specs.Calls.{reported}
 use mathlib.Core.Path.{ap, sym, _∙_}
 use borrow.Author.Needs.{needs}
 use Rattle.receiver.proofs.proxy.drucenal_proxy_set_up.Statement.{statement}
@@ -27,7 +28,7 @@ same-length c = search needs
 returns : tie.Need-returns
 returns c =
     let d = c .before .before .before .before .before .set-up .ensures in
-    ((ap refusalOf (sym (c .before .n .given .1) ∙ d .0 .0), d .0 .1), d .1)
+    ((ap refusal (ap reported (sym (c .before .n .given .1)) ∙ d .0 .0), d .0 .1), d .1)
 
 same-length-2 : tie.Need-same-length-2
 same-length-2 c = search needs
@@ -35,7 +36,7 @@ same-length-2 c = search needs
 returns-2 : tie.Need-returns-2
 returns-2 c =
     let d = c .before .before .before .before .set-up .ensures in
-    ((ap refusalOf (sym (c .enum-told .given .1) ∙ d .0 .0), d .0 .1), d .1)
+    ((ap refusal (ap reported (sym (c .enum-told .given .1)) ∙ d .0 .0), d .0 .1), d .1)
 
 same-length-3 : tie.Need-same-length-3
 same-length-3 c = search needs
@@ -43,7 +44,7 @@ same-length-3 c = search needs
 returns-3 : tie.Need-returns-3
 returns-3 c =
     let d = c .before .before .before .before .set-up .ensures in
-    ((ap refusalOf (sym (c .enum-told2 .given .1) ∙ d .0 .0), d .0 .1), d .1)
+    ((ap refusal (ap reported (sym (c .enum-told2 .given .1)) ∙ d .0 .0), d .0 .1), d .1)
 
 pub drucenal-proxy-set-up-spec : {M : Type 1} → statement M
 drucenal-proxy-set-up-spec =

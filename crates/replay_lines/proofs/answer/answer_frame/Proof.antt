@@ -22,7 +22,7 @@ same-length-2 c = search needs
 
 returns : tie.Need-returns
 returns c =
-    (did-received _ _ _ _ _ _ _ _ _ _ (c .before .before .before .before .before .before .before .before .before .before .frame .given .1) (rw (toZ-ofZ (record { sfits = c .before .before .before .before .before .before .before .before .before .known-told .given .0 .1 })) at (c .before .before .before .before .before .before .before .received-changes-add .ensures .0)) (c .before .before .tell .ensures), c .before .before .before .before .before .before .before .received-changes-add .ensures .1)
+    (did-received _ _ _ _ _ _ _ (c .before .before .before .before .before .before .before .received-changes-add .result) _ _ (c .before .before .before .before .before .before .before .before .before .before .frame .given .1) (rw (toZ-ofZ (record { sfits = c .before .before .before .before .before .before .before .before .before .known-told .given .0 .1 })) at (c .before .before .before .before .before .before .before .received-changes-add .ensures .0)) (c .before .before .tell .ensures), c .before .before .before .before .before .before .before .received-changes-add .ensures .1)
 
 enum-known-frame-2 : tie.Need-enum-known-frame-2
 enum-known-frame-2 c = search needs
@@ -41,7 +41,7 @@ same-length-4 c = search needs
 
 returns-2 : tie.Need-returns-2
 returns-2 c =
-    (did-range _ _ _ _ _ _ _ _ _ _ (c .before .before .before .before .before .before .before .before .before .before .frame2 .given .1) (rw (toZ-ofZ (record { sfits = c .before .before .before .before .before .before .before .before .before .known-told2 .given .0 .1 }), toZ-ofZ (record { sfits = c .before .before .before .before .before .before .before .before .before .known-told2 .given .1 .0 .1 })) at (c .before .before .before .before .before .before .before .irrelevant-changes-range .ensures .0)) (c .before .before .tell2 .ensures), c .before .before .before .before .before .before .before .irrelevant-changes-range .ensures .1)
+    (did-range _ _ _ _ _ _ _ (c .before .before .before .before .before .before .before .irrelevant-changes-range .result) _ _ (c .before .before .before .before .before .before .before .before .before .before .frame2 .given .1) (rw (toZ-ofZ (record { sfits = c .before .before .before .before .before .before .before .before .before .known-told2 .given .0 .1 }), toZ-ofZ (record { sfits = c .before .before .before .before .before .before .before .before .before .known-told2 .given .1 .0 .1 })) at (c .before .before .before .before .before .before .before .irrelevant-changes-range .ensures .0)) (c .before .before .tell2 .ensures), c .before .before .before .before .before .before .before .irrelevant-changes-range .ensures .1)
 
 enum-known-frame-3 : tie.Need-enum-known-frame-3
 enum-known-frame-3 c = search needs

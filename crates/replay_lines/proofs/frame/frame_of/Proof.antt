@@ -4,29 +4,29 @@ use Rattle.replay_lines.proofs.FrameLaws.{read-back, frame-received, fr
 use Rattle.replay_lines.proofs.frame.frame_of.Statement.{statement}
 use Rattle.replay_lines.proofs.frame.frame_of.Tie as tie
 
-signed-requires : tie.Need-signed-requires
-signed-requires c κs = search needs
+of-bits-requires : tie.Need-of-bits-requires
+of-bits-requires c κs = search needs
 
 returns : tie.Need-returns
-returns c = frame-received _ (c .before .before .args .a) (c .before .before .args .b) _ (c .before .if1 .taken) (read-back _ _ (c .before .before .fits .a) (c .signed .ensures))
+returns c = frame-received _ (c .before .before .args .a) (c .before .before .args .b) _ (c .before .if1 .taken) (read-back _ _ (c .before .before .fits .a) (c .of-bits .ensures))
 
-signed-requires-2 : tie.Need-signed-requires-2
-signed-requires-2 c κs = search needs
+of-bits-requires-2 : tie.Need-of-bits-requires-2
+of-bits-requires-2 c κs = search needs
 
-signed-requires-3 : tie.Need-signed-requires-3
-signed-requires-3 c κs = search needs
+of-bits-requires-3 : tie.Need-of-bits-requires-3
+of-bits-requires-3 c κs = search needs
 
 returns-2 : tie.Need-returns-2
-returns-2 c = frame-range _ (c .before .before .before .before .args .a) (c .before .before .before .before .args .b) _ _ (c .before .before .before .if1 .left) (c .before .before .if2 .taken) (read-back _ _ (c .before .before .before .before .fits .a) (c .before .signed2 .ensures)) (read-back _ _ (c .before .before .before .before .fits .b) (c .signed3 .ensures))
+returns-2 c = frame-range _ (c .before .before .before .before .args .a) (c .before .before .before .before .args .b) _ _ (c .before .before .before .if1 .left) (c .before .before .if2 .taken) (read-back _ _ (c .before .before .before .before .fits .a) (c .before .of-bits2 .ensures)) (read-back _ _ (c .before .before .before .before .fits .b) (c .of-bits3 .ensures))
 
-signed-requires-4 : tie.Need-signed-requires-4
-signed-requires-4 c κs = search needs
+of-bits-requires-4 : tie.Need-of-bits-requires-4
+of-bits-requires-4 c κs = search needs
 
-signed-requires-5 : tie.Need-signed-requires-5
-signed-requires-5 c κs = search needs
+of-bits-requires-5 : tie.Need-of-bits-requires-5
+of-bits-requires-5 c κs = search needs
 
 returns-3 : tie.Need-returns-3
-returns-3 c = frame-missing _ (c .before .before .before .before .before .args .a) (c .before .before .before .before .before .args .b) _ _ (c .before .before .before .before .if1 .left) (c .before .before .before .if2 .left) (c .before .before .if3 .taken) (read-back _ _ (c .before .before .before .before .before .fits .a) (c .before .signed4 .ensures)) (read-back _ _ (c .before .before .before .before .before .fits .b) (c .signed5 .ensures))
+returns-3 c = frame-missing _ (c .before .before .before .before .before .args .a) (c .before .before .before .before .before .args .b) _ _ (c .before .before .before .before .if1 .left) (c .before .before .before .if2 .left) (c .before .before .if3 .taken) (read-back _ _ (c .before .before .before .before .before .fits .a) (c .before .of-bits4 .ensures)) (read-back _ _ (c .before .before .before .before .before .fits .b) (c .of-bits5 .ensures))
 
 returns-4 : tie.Need-returns-4
 returns-4 c = frame-other _ _ _ (c .before .before .if1 .left) (c .before .if2 .left) (c .if3 .left)
@@ -35,12 +35,12 @@ pub frame-of-spec : {M : Type 1} → statement M
 frame-of-spec =
     tie.close
     (tie.spec
-    signed-requires
+    of-bits-requires
     returns
-    signed-requires-2
-    signed-requires-3
+    of-bits-requires-2
+    of-bits-requires-3
     returns-2
-    signed-requires-4
-    signed-requires-5
+    of-bits-requires-4
+    of-bits-requires-5
     returns-3
     returns-4)

@@ -68,7 +68,7 @@ returns-3 c =
     let s = c .before .before .before .before .before .before .before .before .before .before in
     let a = s .args in
     let e = ends (c .before .before .before .before .before .before) in
-    let d = range-puts (a .from) (a .until) (s .fits .until) (a .t .now) (s .pre) (e .0) _ _ (e .1) (e .2) _ _ (c .before .before .before .before .if2 .left) (c .before .before .range-above .ensures) in
+    let d = range-puts (a .from) (a .until) (s .fits .until) (a .t .now) (s .pre) (e .0) _ _ (e .1) (e .2) (c .before .before .range-above .result) _ (c .before .before .before .before .if2 .left) (c .before .before .range-above .ensures) in
     (d, range-keeps (a .from) (a .until) (s .fits .until) (a .t .now) (s .pre) _ (d .1))
 
 pub irrelevant-changes-range-spec : {M : Type 1} → statement M

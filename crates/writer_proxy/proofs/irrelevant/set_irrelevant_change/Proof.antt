@@ -4,7 +4,8 @@ use native.Mathlib.Omega.{arith}
 use mathlib.Core.Path.{refl, sym}
 use borrow.Author.Needs.{needs}
 use Rattle.proxy_record.specs.Record.{stateOf}
-use Rattle.proxy_core.specs.Calls.{cap, refused, irrelevantAt, irrelevant}
+use Rattle.proxy_core.specs.declared.Report.the-variants.{Done}
+use Rattle.proxy_core.specs.Calls.{cap, refuses, irrelevantAt, irrelevant}
 use Rattle.proxy_core.proofs.CallsLaws.{irrelevant-old, irrelevant-new}
 use Rattle.proxy_core.proofs.StepLaws.{answered, base-word, taken-below, taken-is, taken-not, irrelevant-keeps}
 use Rattle.writer_proxy.proofs.irrelevant.set_irrelevant_change.Statement.{statement}
@@ -29,7 +30,7 @@ returns-2 c =
     let a = s .args in
     let w = a .t .now in
     let h : c .before .before .before .number-of .result < stateOf w .base = omega (arith, c .if2 .taken, base-word cap w (omega arith) (s .pre)) in
-    (taken-is (a .number) _ (s .fits .number) (c .before .before .before .number-of .ensures) (λ n. irrelevantAt n (stateOf w)) (refused 4 (stateOf w)) _ _ (c .before .before .if1 .left) (rw (irrelevant-old _ (stateOf w) (s .pre .ok) h) (refl, s .pre .made)), s .pre)
+    (taken-is (a .number) _ (s .fits .number) (c .before .before .before .number-of .ensures) (λ n. irrelevantAt n (stateOf w)) (refuses 4 (stateOf w)) Done _ (c .before .before .if1 .left) (rw (irrelevant-old _ (stateOf w) (s .pre .ok) h) (refl, s .pre .made)), s .pre)
 
 track-requires : tie.Need-track-requires
 track-requires c κs =
@@ -46,7 +47,7 @@ returns-3 c =
     let a = s .args in
     let w = a .t .now in
     let h : stateOf w .base ≤ c .before .before .before .before .before .before .before .number-of .result = omega (arith, c .before .before .before .before .if2 .left, base-word cap w (omega arith) (s .pre)) in
-    let p = taken-is (a .number) _ (s .fits .number) (c .before .before .before .before .before .before .before .number-of .ensures) (λ n. irrelevantAt n (stateOf w)) (refused 4 (stateOf w)) _ _ (c .before .before .before .before .before .before .if1 .left) (answered _ _ _ _ (sym (irrelevant-new _ (stateOf w) h)) (c .before .before .track .ensures)) in
+    let p = taken-is (a .number) _ (s .fits .number) (c .before .before .before .before .before .before .before .number-of .ensures) (λ n. irrelevantAt n (stateOf w)) (refuses 4 (stateOf w)) (c .before .before .track .result) _ (c .before .before .before .before .before .before .if1 .left) (answered (c .before .before .track .result) _ _ _ (sym (irrelevant-new _ (stateOf w) h)) (c .before .before .track .ensures)) in
     (p, irrelevant-keeps (a .number) w _ (s .pre) (p .1))
 
 pub set-irrelevant-change-spec : {M : Type 1} → statement M

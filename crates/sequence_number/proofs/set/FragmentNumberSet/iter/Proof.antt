@@ -1,18 +1,18 @@
--- `sequence_number::set::FragmentNumberSet::iter` meets its contract: what the survey said, with the members written, is a case of `Walks`.
+-- `sequence_number::set::FragmentNumberSet::iter` meets its contract: what refuses, or the members written, is a case of `Walks`.
 -- Assumes nothing.
 use Prim.Native.Nat.{ℕ, _<_}
 use mathlib.Core.Path.{_≡_}
 use lib.Dec.{ltb}
+use borrow.Author.Needs.{needs}
 use Rattle.sequence_number.specs.Kind.{fragment}
 use Rattle.sequence_number.specs.NumberSet.{fragmentSet}
-use Rattle.sequence_number.proofs.WalkLaws.{walk-long, walk-past, walk-short, walk-room, walk-up, walk-down}
 use Rattle.sequence_number.proofs.FitLaws.{fragment-agree}
-use borrow.Author.Needs.{needs}
+use Rattle.sequence_number.proofs.WalkLaws.{walk-long, walk-refused, walk-room, walk-up, walk-down}
 use Rattle.sequence_number.proofs.set.FragmentNumberSet.iter.Statement.{statement}
 use Rattle.sequence_number.proofs.set.FragmentNumberSet.iter.Tie as tie
 
 -- the first position that does not fit
-agree : (h : tie.After-survey) → (i : ℕ) → i < 256 → ltb i (h .before .fragment-fit .result) ≡ fragment .fits (h .before .before .before .before .before .args .self .base) i
+agree : (h : tie.After-refused) → (i : ℕ) → i < 256 → ltb i (h .before .fragment-fit .result) ≡ fragment .fits (h .before .before .before .before .before .args .self .base) i
 agree h = fragment-agree _ _ (h .before .fragment-fit .ensures)
 
 returns : tie.Need-returns
@@ -21,56 +21,46 @@ returns c = walk-long fragment (fragmentSet (c .before .before .before .args .se
 fragment-fit-requires : tie.Need-fragment-fit-requires
 fragment-fit-requires c κs = search needs
 
-survey-requires : tie.Need-survey-requires
-survey-requires c κs = search needs
-
-enum-known-n : tie.Need-enum-known-n
-enum-known-n c = search needs
-
-enum-known-n-2 : tie.Need-enum-known-n-2
-enum-known-n-2 c = search needs
+refused-requires : tie.Need-refused-requires
+refused-requires c κs = search needs
 
 returns-2 : tie.Need-returns-2
 returns-2 c =
-    let h = c .before .before .before .before in
+    let h = c .before in
     let a = h .before .before .before .before .before .args in
-    walk-short fragment (fragmentSet (a .self)) (a .up) (a .out .now) (h .before .before .if1 .left) (h .before .fragment-fit .result) (agree h) (h .survey .result) (h .survey .ensures) _ (c .before .before .n2 .given .1) (c .if2 .taken)
+    walk-refused fragment (fragmentSet (a .self)) (a .up) (a .out .now) (h .before .before .if1 .left) (h .before .fragment-fit .result) (agree h) (h .refused .result) (h .refused .ensures) (c .if2 .taken)
 
 rise-fragment-requires : tie.Need-rise-fragment-requires
 rise-fragment-requires c κs =
-    let h = c .before .before .before .before .before .before in
+    let h = c .before .before .before in
     let a = h .before .before .before .before .before .args in
-    walk-room fragment (fragmentSet (a .self)) (a .up) (a .out .now) (h .before .before .if1 .left) (h .before .fragment-fit .result) (agree h) (h .survey .result) (h .survey .ensures) _ (c .before .before .before .before .n2 .given .1) (c .before .before .if2 .left)
+    walk-room fragment (fragmentSet (a .self)) (a .up) (a .out .now) (h .before .before .if1 .left) (h .before .fragment-fit .result) (agree h) (h .refused .result) (h .refused .ensures) (c .before .before .if2 .left)
 
 same-length : tie.Need-same-length
 same-length c = search needs
 
 returns-3 : tie.Need-returns-3
 returns-3 c =
-    let h = c .before .before .before .before .before .before .before .before .before in
+    let h = c .before .before .before .before .before .before in
     let a = h .before .before .before .before .before .args in
-    walk-up fragment (fragmentSet (a .self)) (a .up) (a .out .now) (h .before .before .if1 .left) (h .before .fragment-fit .result) (agree h) (h .survey .result) (h .survey .ensures) _ (c .before .before .before .before .before .before .before .n2 .given .1) (c .before .before .before .before .if3 .taken) (c .before .before .before .before .before .if2 .left) (c .before .before .rise-fragment .last .1 .1 .1 .0) (c .before .before .rise-fragment .ensures)
+    let r = c .before .before .rise-fragment in
+    walk-up fragment (fragmentSet (a .self)) (a .up) (a .out .now) (h .before .before .if1 .left) (h .before .fragment-fit .result) (agree h) (h .refused .result) (h .refused .ensures) (c .before .before .before .before .before .if2 .left) (c .before .before .before .before .if3 .taken) (r .result) (r .ensures .0) (r .last .1 .1 .1 .0) (r .ensures .1)
 
 fall-fragment-requires : tie.Need-fall-fragment-requires
 fall-fragment-requires c κs =
-    let h = c .before .before .before .before .before .before in
-    let a = h .before .before .before .before .before .args in
-    walk-room fragment (fragmentSet (a .self)) (a .up) (a .out .now) (h .before .before .if1 .left) (h .before .fragment-fit .result) (agree h) (h .survey .result) (h .survey .ensures) _ (c .before .before .before .before .n2 .given .1) (c .before .before .if2 .left)
-
-returns-4 : tie.Need-returns-4
-returns-4 c =
     let h = c .before .before .before in
     let a = h .before .before .before .before .before .args in
-    walk-past fragment (fragmentSet (a .self)) (a .up) (a .out .now) (h .before .before .if1 .left) (h .before .fragment-fit .result) (agree h) (h .survey .result) (h .survey .ensures) _ (c .before .n .given .1)
+    walk-room fragment (fragmentSet (a .self)) (a .up) (a .out .now) (h .before .before .if1 .left) (h .before .fragment-fit .result) (agree h) (h .refused .result) (h .refused .ensures) (c .before .before .if2 .left)
 
 same-length-2 : tie.Need-same-length-2
 same-length-2 c = search needs
 
-returns-5 : tie.Need-returns-5
-returns-5 c =
-    let h = c .before .before .before .before .before .before .before .before .before in
+returns-4 : tie.Need-returns-4
+returns-4 c =
+    let h = c .before .before .before .before .before .before in
     let a = h .before .before .before .before .before .args in
-    walk-down fragment (fragmentSet (a .self)) (a .up) (a .out .now) (h .before .before .if1 .left) (h .before .fragment-fit .result) (agree h) (h .survey .result) (h .survey .ensures) _ (c .before .before .before .before .before .before .before .n2 .given .1) (c .before .before .before .before .if3 .left) (c .before .before .before .before .before .if2 .left) (c .before .before .fall-fragment .last .1 .1 .1 .0) (c .before .before .fall-fragment .ensures)
+    let r = c .before .before .fall-fragment in
+    walk-down fragment (fragmentSet (a .self)) (a .up) (a .out .now) (h .before .before .if1 .left) (h .before .fragment-fit .result) (agree h) (h .refused .result) (h .refused .ensures) (c .before .before .before .before .before .if2 .left) (c .before .before .before .before .if3 .left) (r .result) (r .ensures .0) (r .last .1 .1 .1 .0) (r .ensures .1)
 
 pub iter-spec : {M : Type 1} → statement M
 iter-spec =
@@ -78,14 +68,11 @@ iter-spec =
     (tie.spec
     returns
     fragment-fit-requires
-    survey-requires
-    enum-known-n
-    enum-known-n-2
+    refused-requires
     returns-2
     rise-fragment-requires
     same-length
     returns-3
     fall-fragment-requires
-    returns-4
     same-length-2
-    returns-5)
+    returns-4)

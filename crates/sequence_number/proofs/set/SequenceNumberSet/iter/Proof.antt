@@ -1,28 +1,28 @@
--- `sequence_number::set::SequenceNumberSet::iter` meets its contract: what the survey said, with the members written, is a case of `Walks`.
+-- `sequence_number::set::SequenceNumberSet::iter` meets its contract: what refuses, or the members written, is a case of `Walks`.
 -- Assumes nothing.
 use Prim.Native.Nat.{ℕ, _<_}
 use mathlib.Core.Path.{_≡_, ap, _∙_}
-use lib.Dec.{ltb}
-use Rattle.sequence_number.specs.Kind.{sequence}
-use Rattle.sequence_number.specs.NumberSet.{sequenceSet}
-use Rattle.sequence_number.proofs.WalkLaws.{walk-long, walk-past, walk-short, walk-room, walk-up, walk-down}
 use mathlib.Core.List.{map, reverse}
+use lib.Dec.{ltb}
 use lib.IntN.{ℤ}
 use lib.Seq.{sets}
 use mir.Syntax.{w64}
 use mir.Val.{ofZ, toZ}
 use mir.Facts.{toZ-ofZ}
-use Rattle.sequence_number.specs.Bitmap.{positions}
 use borrow.Author.Needs.{needs}
+use Rattle.sequence_number.specs.Kind.{sequence}
+use Rattle.sequence_number.specs.Bitmap.{positions}
+use Rattle.sequence_number.specs.NumberSet.{sequenceSet}
+use Rattle.sequence_number.proofs.WalkLaws.{walk-long, walk-refused, walk-room, walk-up, walk-down}
 use Rattle.sequence_number.proofs.set.SequenceNumberSet.iter.Statement.{statement}
 use Rattle.sequence_number.proofs.set.SequenceNumberSet.iter.Tie as tie
 
 -- the base as it reached the calls
-back : (h : tie.After-survey) → toZ w64 (ofZ w64 (h .before .before .before .before .before .args .self .base)) ≡ h .before .before .before .before .before .args .self .base
+back : (h : tie.After-refused) → toZ w64 (ofZ w64 (h .before .before .before .before .before .args .self .base)) ≡ h .before .before .before .before .before .args .self .base
 back h = toZ-ofZ {w = w64} {z = h .before .before .before .before .before .args .self .base} (record { sfits = h .before .before .before .before .struct-told .given .0 .1 })
 
 -- the first position that does not fit
-agree : (h : tie.After-survey) → (i : ℕ) → i < 256 → ltb i (h .before .sequence-fit .result) ≡ sequence .fits (h .before .before .before .before .before .args .self .base) i
+agree : (h : tie.After-refused) → (i : ℕ) → i < 256 → ltb i (h .before .sequence-fit .result) ≡ sequence .fits (h .before .before .before .before .before .args .self .base) i
 agree h i p = h .before .sequence-fit .ensures i p ∙ ap (λ (b : ℤ). sequence .fits b i) (back h)
 
 returns : tie.Need-returns
@@ -31,56 +31,46 @@ returns c = walk-long sequence (sequenceSet (c .before .before .before .args .se
 sequence-fit-requires : tie.Need-sequence-fit-requires
 sequence-fit-requires c κs = search needs
 
-survey-requires : tie.Need-survey-requires
-survey-requires c κs = search needs
-
-enum-known-n : tie.Need-enum-known-n
-enum-known-n c = search needs
-
-enum-known-n-2 : tie.Need-enum-known-n-2
-enum-known-n-2 c = search needs
+refused-requires : tie.Need-refused-requires
+refused-requires c κs = search needs
 
 returns-2 : tie.Need-returns-2
 returns-2 c =
-    let h = c .before .before .before .before in
+    let h = c .before in
     let a = h .before .before .before .before .before .args in
-    walk-short sequence (sequenceSet (a .self)) (a .up) (a .out .now) (h .before .before .if1 .left) (h .before .sequence-fit .result) (agree h) (h .survey .result) (h .survey .ensures) _ (c .before .before .n2 .given .1) (c .if2 .taken)
+    walk-refused sequence (sequenceSet (a .self)) (a .up) (a .out .now) (h .before .before .if1 .left) (h .before .sequence-fit .result) (agree h) (h .refused .result) (h .refused .ensures) (c .if2 .taken)
 
 rise-sequence-requires : tie.Need-rise-sequence-requires
 rise-sequence-requires c κs =
-    let h = c .before .before .before .before .before .before in
+    let h = c .before .before .before in
     let a = h .before .before .before .before .before .args in
-    rw (back h) (walk-room sequence (sequenceSet (a .self)) (a .up) (a .out .now) (h .before .before .if1 .left) (h .before .sequence-fit .result) (agree h) (h .survey .result) (h .survey .ensures) _ (c .before .before .before .before .n2 .given .1) (c .before .before .if2 .left))
+    rw (back h) (walk-room sequence (sequenceSet (a .self)) (a .up) (a .out .now) (h .before .before .if1 .left) (h .before .sequence-fit .result) (agree h) (h .refused .result) (h .refused .ensures) (c .before .before .if2 .left))
 
 same-length : tie.Need-same-length
 same-length c = search needs
 
 returns-3 : tie.Need-returns-3
 returns-3 c =
-    let h = c .before .before .before .before .before .before .before .before in
+    let h = c .before .before .before .before .before in
     let a = h .before .before .before .before .before .args in
-    walk-up sequence (sequenceSet (a .self)) (a .up) (a .out .now) (h .before .before .if1 .left) (h .before .sequence-fit .result) (agree h) (h .survey .result) (h .survey .ensures) _ (c .before .before .before .before .before .before .n2 .given .1) (c .before .before .before .if3 .taken) (c .before .before .before .before .if2 .left) (c .before .rise-sequence .last .1 .1 .1 .0) (c .before .rise-sequence .ensures ∙ ap (λ (b : ℤ). sets (a .out .now) 0 (map (sequence .plus b) (positions (a .self .words) (a .self .count)))) (back h))
+    let r = c .before .rise-sequence in
+    walk-up sequence (sequenceSet (a .self)) (a .up) (a .out .now) (h .before .before .if1 .left) (h .before .sequence-fit .result) (agree h) (h .refused .result) (h .refused .ensures) (c .before .before .before .before .if2 .left) (c .before .before .before .if3 .taken) (r .result) (r .ensures .0) (r .last .1 .1 .1 .0) (r .ensures .1 ∙ ap (λ (b : ℤ). sets (a .out .now) 0 (map (sequence .plus b) (positions (a .self .words) (a .self .count)))) (back h))
 
 fall-sequence-requires : tie.Need-fall-sequence-requires
 fall-sequence-requires c κs =
-    let h = c .before .before .before .before .before .before in
-    let a = h .before .before .before .before .before .args in
-    rw (back h) (walk-room sequence (sequenceSet (a .self)) (a .up) (a .out .now) (h .before .before .if1 .left) (h .before .sequence-fit .result) (agree h) (h .survey .result) (h .survey .ensures) _ (c .before .before .before .before .n2 .given .1) (c .before .before .if2 .left))
-
-returns-4 : tie.Need-returns-4
-returns-4 c =
     let h = c .before .before .before in
     let a = h .before .before .before .before .before .args in
-    walk-past sequence (sequenceSet (a .self)) (a .up) (a .out .now) (h .before .before .if1 .left) (h .before .sequence-fit .result) (agree h) (h .survey .result) (h .survey .ensures) _ (c .before .n .given .1)
+    rw (back h) (walk-room sequence (sequenceSet (a .self)) (a .up) (a .out .now) (h .before .before .if1 .left) (h .before .sequence-fit .result) (agree h) (h .refused .result) (h .refused .ensures) (c .before .before .if2 .left))
 
 same-length-2 : tie.Need-same-length-2
 same-length-2 c = search needs
 
-returns-5 : tie.Need-returns-5
-returns-5 c =
-    let h = c .before .before .before .before .before .before .before .before in
+returns-4 : tie.Need-returns-4
+returns-4 c =
+    let h = c .before .before .before .before .before in
     let a = h .before .before .before .before .before .args in
-    walk-down sequence (sequenceSet (a .self)) (a .up) (a .out .now) (h .before .before .if1 .left) (h .before .sequence-fit .result) (agree h) (h .survey .result) (h .survey .ensures) _ (c .before .before .before .before .before .before .n2 .given .1) (c .before .before .before .if3 .left) (c .before .before .before .before .if2 .left) (c .before .fall-sequence .last .1 .1 .1 .0) (c .before .fall-sequence .ensures ∙ ap (λ (b : ℤ). sets (a .out .now) 0 (map (sequence .plus b) (reverse (positions (a .self .words) (a .self .count))))) (back h))
+    let r = c .before .fall-sequence in
+    walk-down sequence (sequenceSet (a .self)) (a .up) (a .out .now) (h .before .before .if1 .left) (h .before .sequence-fit .result) (agree h) (h .refused .result) (h .refused .ensures) (c .before .before .before .before .if2 .left) (c .before .before .before .if3 .left) (r .result) (r .ensures .0) (r .last .1 .1 .1 .0) (r .ensures .1 ∙ ap (λ (b : ℤ). sets (a .out .now) 0 (map (sequence .plus b) (reverse (positions (a .self .words) (a .self .count))))) (back h))
 
 pub iter-spec : {M : Type 1} → statement M
 iter-spec =
@@ -88,14 +78,11 @@ iter-spec =
     (tie.spec
     returns
     sequence-fit-requires
-    survey-requires
-    enum-known-n
-    enum-known-n-2
+    refused-requires
     returns-2
     rise-sequence-requires
     same-length
     returns-3
     fall-sequence-requires
-    returns-4
     same-length-2
-    returns-5)
+    returns-4)

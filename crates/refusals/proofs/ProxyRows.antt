@@ -1,0 +1,136 @@
+-- The rows of the writer proxy's calls. Assumes nothing.
+use Prim.Native.Nat.{ℕ, _-_, _^_}
+use mathlib.Core.Path.{_≡_, refl, sym, ap, subst, _∙_}
+use mathlib.Core.Bool.{Bool, true, false}
+use mathlib.Core.Logic.{_⊎_, inl, inr, ⊎-elim}
+use mathlib.Core.List.{List, [], _∷_}
+use lib.ListN.{length}
+use lib.Dec.{T, eqb}
+use lib.IntN.{ℤ, pos}
+use lib.Signed.{ltZ, ltZ-yes, _<ℤ_}
+use mir.Syntax.{w64}
+use mir.Val.{SFits}
+use borrow.Author.Tests.{eqb-true, eqb-false}
+use Rattle.sequence_number.specs.Outcome.{Outcome}
+use Rattle.sequence_number.specs.Outcome as outcome
+use Rattle.sequence_number.specs.Number.{top, isNumber, natOf}
+use Rattle.proxy_record.specs.State.{State, begun}
+use Rattle.proxy_record.specs.Record.{recordOf, stateOf, Good, size}
+use Rattle.proxy_core.proofs.StepLaws.{good-of}
+use Rattle.proxy_core.specs.Calls.{Reply, received, receivedAt, irrelevant, irrelevantAt, irrelevantRange, rangeAt}
+use Rattle.proxy_core.proofs.CallsLaws.{ok-begun}
+use Rattle.writer_proxy.specs.SetUp.{setUp, Begun}
+use Rattle.writer_proxy.specs.Missing.{missingOf, listed, After}
+use Rattle.writer_proxy.specs.Statements.{NotTaken}
+use Rattle.writer_proxy.proofs.Refusals.{not-taken, received-accepted, irrelevant-accepted, range-accepted, end-top}
+use Rattle.writer_proxy.proofs.Promises.{received-refused-same, irrelevant-refused-same, range-refused-same, missing-refused-same, set-up-refused-same}
+use Rattle.refusals.specs.RefusalTable.{Row, Verdict, refused, Exactly, Refuses, verdict, notTaken, rangeRows, missingRows, shorter}
+use Rattle.refusals.proofs.RowLaws.{said-refused, said-accepted, none-left, asks, asks-not, asks-less, clash}
+
+-- what is promised of a call that says so, and leaves so
+pub told-as : {A B : Type 0} {x y : Outcome A} {before after out : B} (rows : List Row) → Refuses (verdict x) rows (after ≡ before) → (y ≡ x) × (out ≡ after)
+    → Refuses (verdict y) rows (out ≡ before)
+told-as rows h a =
+    record {
+      exactly = rw (a .0) (h .exactly);
+      untouched = λ n z. a .1 ∙ h .untouched n (rw (a .0) at z);
+    }
+
+abbrev pub replied : Reply → Verdict
+replied x = verdict (x .report)
+
+-- a call that goes on to its end has no row left
+ends : (x : Reply) → ((n : ℕ) → x .report ≡ outcome.refused n → ⊥) → Exactly (replied x) []
+ends x f = rw (said-accepted (x .report) f) none-left
+
+-- a call by the rows, which leaves the record where it is refused
+module _ (w : List ℕ) (g : Good w) (x : Reply) (rows : List Row) where
+  by-rows : Exactly (replied x) rows → ((n : ℕ) → x .report ≡ outcome.refused n → x .state ≡ stateOf w) → Refuses (replied x) rows (recordOf (x .state) ≡ w)
+  by-rows e same =
+      record {
+        exactly = e;
+        untouched = λ n z. ap recordOf (same n (said-refused (x .report) n z)) ∙ sym (g .made);
+      }
+
+-- ---- tests
+
+test-true : (b : Bool) → T b → b ≡ true
+test-true true t = refl
+test-true false t = absurd t
+
+pub below-holds : (a b : ℤ) → ltZ a b ≡ true → a <ℤ b
+below-holds a b e = ltZ-yes (subst T (sym e) tt)
+
+pub below-fails : (a b : ℤ) → ltZ a b ≡ false → a <ℤ b → ⊥
+below-fails a b e h = clash (ltZ a b) (test-true (ltZ a b) (h .lt)) e
+
+-- ---- numbers that a call takes
+
+abbrev Names : ℤ → Type 0
+Names n = (n <ℤ pos 1) ⊎ (n ≡ pos (2 ^ 63 - 1))
+
+names : (n : ℤ) → NotTaken n → Names n
+names n = ⊎-elim (λ e. inl (below-holds n (pos 1) e)) (λ e. inr e)
+
+named : (n : ℤ) → Names n → NotTaken n
+named n = ⊎-elim (λ h. inl (test-true (ltZ n (pos 1)) (h .lt))) (λ e. inr e)
+
+module _ (n : ℤ) (f : SFits w64 n) where
+  pub row-holds : isNumber n ≡ false → Names n
+  row-holds e = names n (not-taken n f .0 e)
+
+  pub row-fails : isNumber n ≡ true → Names n → ⊥
+  row-fails e h = clash (isNumber n) e (not-taken n f .1 (named n h))
+
+module _ (w : List ℕ) (g : Good w) where
+  pub add-rows : (n : ℤ) (time : ℕ) → SFits w64 n → Refuses (replied (received n time (stateOf w))) (notTaken n ∷ []) (recordOf (received n time (stateOf w) .state) ≡ w)
+  unfolding received
+  add-rows n time f =
+      by-rows w g (received n time (stateOf w)) (notTaken n ∷ [])
+      (asks-not replied refl (isNumber n) (row-holds n f) (row-fails n f)
+      (λ t. ends (receivedAt (natOf n) time (stateOf w)) (received-accepted (natOf n) time (stateOf w))))
+      (received-refused-same n f (stateOf w) time)
+
+  pub irrelevant-rows : (n : ℤ) → SFits w64 n → Refuses (replied (irrelevant n (stateOf w))) (notTaken n ∷ []) (recordOf (irrelevant n (stateOf w) .state) ≡ w)
+  unfolding irrelevant
+  irrelevant-rows n f =
+      by-rows w g (irrelevant n (stateOf w)) (notTaken n ∷ [])
+      (asks-not replied refl (isNumber n) (row-holds n f) (row-fails n f)
+      (λ t. ends (irrelevantAt (natOf n) (stateOf w)) (irrelevant-accepted (natOf n) (stateOf w))))
+      (irrelevant-refused-same n f (stateOf w))
+
+  pub range-rows : (a b : ℤ) → Refuses (replied (irrelevantRange a b (stateOf w))) (rangeRows a b) (recordOf (irrelevantRange a b (stateOf w) .state) ≡ w)
+  unfolding irrelevantRange
+  range-rows a b =
+      by-rows w g (irrelevantRange a b (stateOf w)) (rangeRows a b)
+      (asks replied refl (ltZ b a) (below-holds b a) (below-fails b a)
+      (λ e. ends (rangeAt (natOf a) (natOf b) (stateOf w)) (range-accepted (natOf a) (natOf b) (stateOf w))))
+      (range-refused-same a b (stateOf w))
+
+-- ---- the missing list
+
+module _ (start end : ℤ) (s : State) (out : List ℤ) where
+  pub missing-rows : Refuses (verdict (listed start end s out .answer)) (missingRows start end s out) (listed start end s out .output ≡ out)
+  unfolding listed
+  missing-rows =
+      let says : After → Verdict = λ x. verdict (x .answer) in
+      record {
+        exactly =
+            asks says refl (eqb (natOf end) top)
+            (λ e. end-top end .0 (eqb-true (natOf end) top e))
+            (λ e h. eqb-false (natOf end) top e (end-top end .1 h))
+            (λ e. asks-less says refl (length out) (length (missingOf start end s)) (λ h. none-left));
+        untouched = λ n e. missing-refused-same start end s out n (said-refused (listed start end s out .answer) n e);
+      }
+
+-- ---- set-up
+
+pub set-up-rows : (w : List ℕ) → Refuses (verdict (setUp w .report)) (shorter w (recordOf begun) ∷ []) (setUp w .words ≡ w)
+unfolding setUp
+set-up-rows w =
+    let says : Begun → Verdict = λ x. verdict (x .report) in
+    let long : length (recordOf begun) ≡ size = good-of (recordOf begun) begun ok-begun refl .whole in
+    record {
+      exactly = rw long (asks-less says refl (length w) size (λ h. none-left));
+      untouched = λ n e. set-up-refused-same w n (said-refused (setUp w .report) n e);
+    }

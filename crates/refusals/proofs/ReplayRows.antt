@@ -1,0 +1,381 @@
+-- The rows of the replay's calls: which lines are malformed, and which refusal an answer line shows. Assumes nothing.
+use Prim.Native.Nat.{ℕ, suc, _+_, _*_, _<_, _≤_, _^_}
+use native.Mathlib.Omega.{arith}
+use mathlib.Core.Path.{_≡_, refl, sym, ap, subst, _∙_}
+use mathlib.Core.Bool.{true}
+use mathlib.Core.Logic.{inl, inr, ⊎-elim}
+use mathlib.Core.List.{List, [], _∷_, _++_}
+use lib.ListN.{length, getD, take, drop, take-append-drop}
+use lib.Dec.{ltb, eqb}
+use lib.IntN.{ℤ}
+use lib.Signed.{ltZ}
+use mir.Syntax.{w64}
+use mir.Val.{SFits, toZ}
+use mir.Facts.{sfits-toZ}
+use borrow.Author.Tests.{eqb-true, eqb-false, ne-eqb}
+use Rattle.sequence_number.specs.Lent.{over}
+use Rattle.sequence_number.specs.Number.{top, isNumber, natOf}
+use Rattle.sequence_number.specs.NumberWire.{wrote}
+use Rattle.sequence_number.specs.declared.wire.Written.{Written}
+use Rattle.sequence_number.specs.Outcome.{refusal}
+use Rattle.sequence_number.specs.Outcome as outcome
+use Rattle.sequence_number.proofs.Split.{split, split-lt, split-eq}
+use Rattle.proxy_record.specs.State.{State}
+use Rattle.proxy_record.specs.Record.{recordOf, stateOf, Good}
+use Rattle.proxy_core.specs.Calls.{received, irrelevantRange}
+use Rattle.writer_proxy.specs.Missing.{missingOf, listed}
+use Rattle.writer_proxy.proofs.Refusals.{end-top}
+use Rattle.writer_proxy.proofs.Promises.{received-number, range-number, missing-number, received-refused-same, range-refused-same, missing-refused-same}
+use Rattle.replay_lines.specs.Hex.{digitOf, allHex, valueAt}
+use Rattle.replay_lines.specs.Frame.{frameOf, parsed}
+use Rattle.replay_lines.specs.Decimal.{lineOf}
+use Rattle.replay_lines.specs.Answer.{Step, Answer, counted, stepOf, textOf, given, answered, Answered}
+use Rattle.replay_lines.specs.Feed.{Run, Outcome, took, says, runOf, fed, Fed-to}
+use Rattle.replay_lines.specs.declared.frame.Frame.{Frame}
+use Rattle.replay_lines.specs.declared.frame.Frame.the-variants.{Received, Range, Missing}
+use Rattle.replay_lines.specs.declared.frame.Parsed.{Parsed}
+use Rattle.replay_lines.specs.declared.frame.Parsed.the-variants.{Malformed, Reads}
+use Rattle.replay_lines.specs.declared.feed.Fed.{Fed}
+use Rattle.replay_lines.proofs.HexLaws.{digit-low, digit-decimal, digit-between, digit-upper, digit-between-cases, digit-lower, digit-high, hex-at, value-none, value-more, value-fits}
+use Rattle.replay_lines.proofs.FrameLaws.{parsed-length, parsed-digit, parsed-frame, frame-other, frame-received, frame-range, frame-missing}
+use Rattle.refusals.specs.RefusalTable.{Row, Verdict, accepted, refused, Exactly, Refuses, verdict, numbered, readAs, fedAs, Digit, WellFormed, malformed, frameRows, lineRows, AnswerLine, answerRows, feedRows}
+use Rattle.refusals.proofs.RowLaws.{none-left, holds, passes, asks, asks-not, asks-less, not-refused, by-number}
+use Rattle.refusals.proofs.ProxyRows.{row-holds, row-fails, below-holds, below-fails}
+
+-- ---- which lines read
+
+digit-counts : (c : ℕ) → Digit c → digitOf c ≡ 16 → ⊥
+digit-counts c d e =
+    ⊎-elim (λ h. let k = digit-decimal c (h .0) (h .1) in omega (arith, h .0, h .1))
+    (⊎-elim (λ h. let k = digit-upper c (h .0) (h .1) in omega (arith, h .0, h .1)) (λ h. let k = digit-lower c (h .0) (h .1) in omega (arith, h .0, h .1)))
+    d
+
+counts-digit : (c : ℕ) → digitOf c < 16 → Digit c
+counts-digit c h =
+    ⊎-elim (λ a. let k = digit-low c a in absurd (omega arith))
+    (λ a.
+    ⊎-elim (λ b. inl (a, omega arith))
+    (λ b.
+    ⊎-elim (λ d. let k = digit-between c (omega arith) d in absurd (omega arith))
+    (λ d.
+    ⊎-elim (λ e. inr (inl (d, omega arith)))
+    (λ e.
+    ⊎-elim (λ f. let k = digit-between-cases c (omega arith) f in absurd (omega arith))
+    (λ f.
+    ⊎-elim (λ g. inr (inr (f, omega arith))) (λ g. let k = digit-high c (omega arith) in absurd (omega arith))
+    (split-lt c 103))
+    (split-lt c 97))
+    (split-lt c 71))
+    (split-lt c 65))
+    (split-lt c 58))
+    (split-lt c 48)
+
+all-digits : (s : List ℕ) → ((i : ℕ) → i < length s → Digit (getD s i 0)) → allHex s ≡ true
+unfolding allHex
+all-digits [] f = refl
+all-digits (c ∷ s) f = rw (ne-eqb (digitOf c) 16 (digit-counts c (f 0 (omega arith)))) (all-digits s (λ i h. f (suc i) (omega arith)))
+
+not-both : (frame : Frame) → Malformed ≡ Reads frame → ⊥
+not-both frame e = let z : _≡_ {A = ℕ} 0 1 = cc in omega arith
+
+-- a digit below ten
+digit-small : (c : ℕ) → Digit c → digitOf c < 10 → c ≡ 48 + digitOf c
+digit-small c d h =
+    ⊎-elim (λ k. let e = digit-decimal c (k .0) (k .1) in omega (arith, k .0, k .1))
+    (⊎-elim (λ k. let e = digit-upper c (k .0) (k .1) in omega (arith, k .0, k .1)) (λ k. let e = digit-lower c (k .0) (k .1) in omega (arith, k .0, k .1)))
+    d
+
+module _ (line : List ℕ) where
+  abbrev kind : ℕ
+  kind = valueAt line 0 2
+
+  abbrev first : ℕ
+  first = valueAt line 2 16
+
+  abbrev second : ℕ
+  second = valueAt line 18 16
+
+  -- a line that reads has its length and its digits
+  reads-digits : (frame : Frame) → parsed line ≡ Reads frame → (length line ≡ 34) × (allHex line ≡ true)
+  reads-digits frame e =
+      ⊎-elim
+      (λ l.
+      split (allHex line) (λ a. (l, a)) (λ a. absurd (not-both frame (parsed-digit line l a ∙ e))))
+      (λ l. absurd (not-both frame (parsed-length line l ∙ e)))
+      (split-eq (length line) 34)
+
+  kind-digits : kind ≡ digitOf (getD line 0 0) * 16 + digitOf (getD line 1 0)
+  kind-digits = omega (arith, value-none line 0, value-more line 0 0, value-more line 0 1)
+
+  reads-kind : (frame : Frame) → parsed line ≡ Reads frame → (1 ≤ kind) × (kind ≤ 3)
+  reads-kind frame e =
+      let r = reads-digits frame e in
+      let f : frameOf kind first second ≡ Reads frame = parsed-frame line (r .0) (r .1) ∙ e in
+      let other : (kind ≡ 1 → ⊥) → (kind ≡ 2 → ⊥) → (kind ≡ 3 → ⊥) → ⊥ = λ a b c. not-both frame (frame-other kind first second a b c ∙ f) in (
+        ⊎-elim (λ h. absurd (other (λ z. omega arith) (λ z. omega arith) (λ z. omega arith))) (λ h. h) (split-lt kind 1),
+        ⊎-elim (λ h. absurd (other (λ z. omega arith) (λ z. omega arith) (λ z. omega arith))) (λ h. h) (split-lt 3 kind),
+      )
+
+  reads-form : (frame : Frame) → parsed line ≡ Reads frame → WellFormed line
+  reads-form frame e =
+      let r = reads-digits frame e in
+      let k = reads-kind frame e in
+      let digit : (i : ℕ) → i < 34 → Digit (getD line i 0) = λ i h. counts-digit (getD line i 0) (hex-at line i (r .1) (omega (arith, r .0))) in
+      let a : getD line 0 0 ≡ 48 + digitOf (getD line 0 0) = digit-small (getD line 0 0) (digit 0 (omega arith)) (omega (arith, kind-digits, k .1)) in
+      let b : getD line 1 0 ≡ 48 + digitOf (getD line 1 0) = digit-small (getD line 1 0) (digit 1 (omega arith)) (omega (arith, kind-digits, k .1)) in
+      record {
+        long = r .0;
+        digits = digit;
+        first = omega (arith, kind-digits, k .1);
+        second = (omega (arith, kind-digits, k .0, k .1), omega (arith, kind-digits, k .1));
+      }
+
+  form-reads : WellFormed line → parsed line ≡ Malformed → ⊥
+  form-reads w e =
+      let a : allHex line ≡ true = all-digits line (λ i h. w .digits i (omega (arith, w .long))) in
+      let f : frameOf kind first second ≡ Malformed = parsed-frame line (w .long) a ∙ e in
+      let x = toZ w64 first in
+      let y = toZ w64 second in
+      let c = digit-decimal (getD line 0 0) (omega (arith, w .first)) (omega (arith, w .first)) in
+      let d = digit-decimal (getD line 1 0) (omega (arith, w .second .0)) (omega (arith, w .second .1)) in
+      ⊎-elim (λ k. not-both (Received x second) (sym (frame-received kind first second x k refl ∙ f)))
+      (λ k.
+      ⊎-elim (λ m. not-both (Range x y) (sym (frame-range kind first second x y k m refl refl ∙ f)))
+      (λ m.
+      not-both (Missing x y)
+      (sym (frame-missing kind first second x y k m (omega (arith, kind-digits, w .first, w .second .0, w .second .1)) refl refl ∙ f)))
+      (split-eq kind 2))
+      (split-eq kind 1)
+
+  -- a received number that was read is an i64
+  received-fits : (n : ℤ) (t : ℕ) → parsed line ≡ Reads (Received n t) → SFits w64 n
+  received-fits n t e =
+      let r = reads-digits (Received n t) e in
+      let w = reads-kind (Received n t) e in
+      let f : frameOf kind first second ≡ Reads (Received n t) = parsed-frame line (r .0) (r .1) ∙ e in
+      let x = toZ w64 first in
+      let y = toZ w64 second in
+      ⊎-elim
+      (λ k.
+      let same : Reads (Received x second) ≡ Reads (Received n t) = frame-received kind first second x k refl ∙ f in
+      let z : x ≡ n = cc in
+      let l : first < 2 ^ 64 = value-fits line 2 16 (r .1) (omega (arith, r .0)) (omega arith) in
+      subst (SFits w64) z (sfits-toZ {w = w64} {n = first} (record { fits = l })))
+      (λ k.
+      ⊎-elim
+      (λ m.
+      let same : Reads (Range x y) ≡ Reads (Received n t) = frame-range kind first second x y k m refl refl ∙ f in
+      let z : _≡_ {A = ℕ} 0 1 = cc in absurd (omega arith))
+      (λ m.
+      let same : Reads (Missing x y) ≡ Reads (Received n t) = frame-missing kind first second x y k m (omega (arith, w .0, w .1)) refl refl ∙ f in
+      let z : _≡_ {A = ℕ} 0 1 = cc in absurd (omega arith))
+      (split-eq kind 2))
+      (split-eq kind 1)
+
+  -- the first row, of a line that reads as it does
+  read-rows : (p : Parsed) → parsed line ≡ p → (v : Verdict) (rows : List Row) → (p ≡ Malformed → v ≡ refused 1) → ((frame : Frame) → p ≡ Reads frame → Exactly v rows)
+      → Exactly v (malformed line ∷ rows)
+  read-rows Malformed e v rows bad good = rw (bad refl) (holds 1 (WellFormed line → ⊥) rows (λ w. form-reads w e))
+  read-rows (Reads frame) e v rows bad good = passes 1 (WellFormed line → ⊥) rows (λ f. f (reads-form frame e)) (good frame refl)
+
+  pub parse-rows : (r : Parsed) → r ≡ parsed line → Exactly (readAs r) (malformed line ∷ [])
+  parse-rows Malformed e = read-rows Malformed (sym e) (refused 1) [] (λ z. refl) (λ frame z. absurd (not-both frame z))
+  parse-rows (Reads frame) e = read-rows (Reads frame) (sym e) accepted [] (λ z. absurd (not-both frame (sym z))) (λ f z. none-left)
+
+-- ---- the refusal in an answer line
+
+abbrev past-number : List ℕ → ℕ → outcome.Outcome ℕ → List ℕ
+past-number numbers base (outcome.refused k) = base ∷ []
+past-number numbers base (outcome.done n) = base ∷ n ∷ numbers
+
+counted-number : (numbers : List ℕ) (base : ℕ) (r : outcome.Outcome ℕ) → counted numbers base r ≡ refusal r ∷ past-number numbers base r
+counted-number numbers base (outcome.refused k) = refl
+counted-number numbers base (outcome.done n) = refl
+
+-- a step shows a number, which is by the rows, and a refused one changes nothing
+record Shows (x : Step) (rows : List Row) (s : State) (list : List ℤ) : Type 0 where
+  number : ℕ
+  rest : List ℕ
+  after : x .after ≡ number ∷ rest
+  refuses : Refuses (numbered number) rows ((x .state ≡ s) × (x .list ≡ list))
+
+module _ (line : List ℕ) (s : State) (list : List ℤ) where
+  shows : (p : Parsed) → parsed line ≡ p → Shows (stepOf p s list) (lineRows line s list) s list
+  unfolding stepOf
+  shows Malformed e =
+      record {
+        number = 1;
+        rest = s .base ∷ [];
+        after = refl;
+        refuses =
+            record {
+              exactly = read-rows line Malformed e (refused 1) (frameRows (parsed line) s list) (λ z. refl) (λ frame z. absurd (not-both frame z));
+              untouched = λ n z. (refl, refl);
+            };
+      }
+  shows (Reads (Received n t)) e =
+      record {
+        number = refusal (received n t s .report);
+        rest = received n t s .state .base ∷ [];
+        after = refl;
+        refuses =
+            record {
+              exactly =
+                  read-rows line (Reads (Received n t)) e (numbered (refusal (received n t s .report))) (frameRows (parsed line) s list)
+                  (λ z. absurd (not-both (Received n t) (sym z)))
+                  (λ frame z.
+                  rw (e, received-number n t s)
+                  (asks-not numbered refl (isNumber n) (row-holds n (received-fits line n t e)) (row-fails n (received-fits line n t e)) (λ h. none-left)));
+              untouched = λ k z. (received-refused-same n (received-fits line n t e) s t k (by-number (received n t s .report) k z), refl);
+            };
+      }
+  shows (Reads (Range a b)) e =
+      record {
+        number = refusal (irrelevantRange a b s .report);
+        rest = irrelevantRange a b s .state .base ∷ [];
+        after = refl;
+        refuses =
+            record {
+              exactly =
+                  read-rows line (Reads (Range a b)) e (numbered (refusal (irrelevantRange a b s .report))) (frameRows (parsed line) s list)
+                  (λ z. absurd (not-both (Range a b) (sym z)))
+                  (λ frame z. rw (e, range-number a b s) (asks numbered refl (ltZ b a) (below-holds b a) (below-fails b a) (λ h. none-left)));
+              untouched = λ k z. (range-refused-same a b s k (by-number (irrelevantRange a b s .report) k z), refl);
+            };
+      }
+  shows (Reads (Missing start end)) e =
+      let some : List ℤ = take 256 list in
+      let answer : outcome.Outcome ℕ = listed start end s some .answer in
+      record {
+        number = refusal answer;
+        rest = past-number (missingOf start end s) (s .base) answer;
+        after = counted-number (missingOf start end s) (s .base) answer;
+        refuses =
+            record {
+              exactly =
+                  read-rows line (Reads (Missing start end)) e (numbered (refusal answer)) (frameRows (parsed line) s list)
+                  (λ z. absurd (not-both (Missing start end) (sym z)))
+                  (λ frame z.
+                  rw (e, missing-number start end s some)
+                  (asks numbered refl (eqb (natOf end) top)
+                  (λ h. end-top end .0 (eqb-true (natOf end) top h))
+                  (λ h k. eqb-false (natOf end) top h (end-top end .1 k))
+                  (λ h. asks-less numbered refl (length some) (length (missingOf start end s)) (λ k. none-left))));
+              untouched =
+                  λ k z.
+                  (refl, ap (λ (l : List ℤ). l ++ drop 256 list) (missing-refused-same start end s some k (by-number answer k z)) ∙ take-append-drop 256 list);
+            };
+      }
+
+  -- the line that a step says, and what follows where it leaves the state and the list
+  step-line : {W L : Type 0} → (stepOf (parsed line) s list .state ≡ s → W) → (stepOf (parsed line) s list .list ≡ list → L)
+      → AnswerLine (lineRows line s list) (textOf (stepOf (parsed line) s list)) (W × L)
+  step-line words lists =
+      let t = shows (parsed line) refl in
+      record {
+        kind = stepOf (parsed line) s list .kind;
+        number = t .number;
+        rest = t .rest;
+        line = ap (lineOf (stepOf (parsed line) s list .kind)) (t .after);
+        refuses =
+            record {
+              exactly = t .refuses .exactly;
+              untouched = λ n h. let u = t .refuses .untouched n h in (words (u .0), lists (u .1));
+            };
+      }
+
+-- ---- the calls
+
+module _ (w line : List ℕ) (list : List ℤ) (out : List ℕ) where
+  abbrev answerSays : Answer → Verdict
+  answerSays a = verdict (wrote (a .written))
+
+  call-rows : Exactly (answerSays (answered w line list out)) (answerRows list out)
+  unfolding answered
+  call-rows = asks-less answerSays refl (length list) 256 (λ a. asks-less answerSays refl (length out) 5148 (λ b. none-left))
+
+  call-leaves : (n : ℕ) → answerSays (answered w line list out) ≡ refused n
+      → (answered w line list out .words ≡ w) × (answered w line list out .list ≡ list) × (answered w line list out .out ≡ out)
+  unfolding answered
+  call-leaves n e =
+      split (ltb (length list) 256)
+      (λ a. rw a (refl, refl, refl))
+      (λ a.
+      split (ltb (length out) 5148)
+      (λ b. rw (a, b) (refl, refl, refl))
+      (λ b. absurd (not-refused n (rw (a, b) at e))))
+
+  call-gives : answerSays (answered w line list out) ≡ accepted → answered w line list out ≡ given (stepOf (parsed line) (stateOf w) list) out
+  unfolding answered
+  call-gives e =
+      split (ltb (length list) 256)
+      (λ a. absurd (not-refused 3 (sym (rw a at e))))
+      (λ a.
+      split (ltb (length out) 5148)
+      (λ b. absurd (not-refused 3 (sym (rw (a, b) at e))))
+      (λ b. rw (a, b)))
+
+module _ (w w′ line : List ℕ) (list list′ : List ℤ) (out out′ : List ℕ) (r : Written) (g : Good w) (a : Answered r w′ list′ out′ (answered w line list out)) where
+  pub answer-rows : Refuses (verdict (wrote r)) (answerRows list out) ((w′ ≡ w) × (list′ ≡ list) × (out′ ≡ out))
+  answer-rows =
+      record {
+        exactly = rw (a .written) (call-rows w line list out);
+        untouched = λ n e.
+            let l = call-leaves w line list out n (rw (a .written) at e) in
+            (a .words-are ∙ l .0, a .list-is ∙ l .1, a .out-is ∙ l .2);
+      }
+
+  pub line-rows : verdict (wrote r) ≡ accepted
+      → (text : List ℕ) × (wrote r ≡ outcome.done (length text)) × (out′ ≡ over text out)
+      × AnswerLine (lineRows line (stateOf w) list) text ((w′ ≡ w) × (list′ ≡ list))
+  line-rows e =
+      let x : Step = stepOf (parsed line) (stateOf w) list in
+      let z : answered w line list out ≡ given x out = call-gives w line list out (rw (a .written) at e) in (
+        textOf x,
+        ap wrote (a .written ∙ ap (λ (y : Answer). y .written) z),
+        a .out-is ∙ ap (λ (y : Answer). y .out) z,
+        step-line line (stateOf w) list
+            (λ h. a .words-are ∙ ap (λ (y : Answer). y .words) z ∙ ap recordOf h ∙ sym (g .made)) (λ h. a .list-is ∙ ap (λ (y : Answer). y .list) z ∙ h),
+      )
+
+pub feed-line : (x : Run) → Good (x .words)
+    → AnswerLine (lineRows (take (x .count) (x .held)) (stateOf (x .words)) (x .list)) (says 10 x) ((took 10 x .words ≡ x .words) × (took 10 x .list ≡ x .list))
+unfolding says took
+feed-line x g = step-line (take (x .count) (x .held)) (stateOf (x .words)) (x .list) (λ h. ap recordOf h ∙ sym (g .made)) (λ h. h)
+
+module _ (w w′ : List ℕ) (list list′ : List ℤ) (held held′ : List ℕ) (count : ℕ) (piece out out′ : List ℕ) (r : Fed)
+    (a : Fed-to r w′ list′ held′ out′ (fed (runOf w list held count) piece out)) where
+  abbrev fedSays : Outcome → Verdict
+  fedSays x = fedAs (x .answer)
+
+  abbrev whole : Outcome
+  whole = fed (runOf w list held count) piece out
+
+  fed-rows : Exactly (fedSays whole) (feedRows list held count out)
+  unfolding fed
+  fed-rows =
+      asks-less fedSays refl (length list) 256
+      (λ h. asks-less fedSays refl (length held) 35
+      (λ i. asks-less fedSays refl 35 count (λ j. asks-less fedSays refl (length out) 5148 (λ k. none-left))))
+
+  fed-leaves : (n : ℕ) → fedSays whole ≡ refused n → (whole .run ≡ runOf w list held count) × (whole .out ≡ out)
+  unfolding fed
+  fed-leaves n e =
+      split (ltb (length list) 256) (λ h. rw h (refl, refl))
+      (λ h. split (ltb (length held) 35) (λ i. rw (h, i) (refl, refl))
+      (λ i. split (ltb 35 count) (λ j. rw (h, i, j) (refl, refl))
+      (λ j. split (ltb (length out) 5148) (λ k. rw (h, i, j, k) (refl, refl))
+      (λ k. absurd (not-refused n (rw (h, i, j, k) at e))))))
+
+  pub feed-rows : Refuses (fedAs r) (feedRows list held count out) ((w′ ≡ w) × (list′ ≡ list) × (held′ ≡ held) × (out′ ≡ out))
+  feed-rows =
+      record {
+        exactly = rw (a .answer-is) fed-rows;
+        untouched = λ n e.
+            let l = fed-leaves n (rw (a .answer-is) at e) in (
+              a .words-are ∙ ap (λ (x : Run). x .words) (l .0),
+              a .list-is ∙ ap (λ (x : Run). x .list) (l .0),
+              a .held-are ∙ ap (λ (x : Run). x .held) (l .0),
+              a .out-is ∙ l .1,
+            );
+      }

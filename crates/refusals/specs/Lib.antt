@@ -1,0 +1,2 @@
+pub mod RefusalTable
+pub mod ExportTable
