@@ -13,20 +13,20 @@ use borrow.Author.Tests.{ltb-true, ltb-false, eq-eqb, ne-eqb}
 use Rattle.sequence_number.specs.Number.{top}
 use Rattle.sequence_number.specs.Outcome.{refused}
 use Rattle.sequence_number.proofs.Split.{split, split-lt, split-eq}
-use Rattle.fragment_assembler.proofs.AreaLaws.{paste-left, apart, paste-right}
-use Rattle.fragment_assembler.proofs.FragmentsLaws.{fragment-starts}
-use Rattle.fragment_assembler.proofs.MarksLaws.{marked-none, length-run, marked-run, covers-past}
+use Rattle.assembly_record.proofs.AreaLaws.{paste-left, apart, paste-right}
+use Rattle.assembly_record.proofs.FragmentsLaws.{fragment-starts}
+use Rattle.assembly_record.proofs.MarksLaws.{marked-none, length-run, marked-run, covers-past}
 use Rattle.fragment_assembler.proofs.RefusalLaws.{OpenOk, Passed, passed}
-use Rattle.fragment_assembler.proofs.RulesLaws.{rests-sample}
-use Rattle.fragment_assembler.proofs.TableLaws.{count-spare, count-full, highest-found, lowest-found, find-hit, spare-find, at-set, howMany-lacks, each-set, find-miss, inside-at}
-use Rattle.fragment_assembler.specs.Call.{begin, known, fresh, settle, kept, dropped, victim, finish, Work, isWhole, returned, fragment, accepted, afterCall, opened, run, runAt, runLength, Settled, After}
-use Rattle.fragment_assembler.specs.Fragments.{brings, firstByte}
+use Rattle.assembly_record.proofs.RulesLaws.{rests-sample}
+use Rattle.assembly_record.proofs.TableLaws.{count-spare, count-full, highest-found, lowest-found, find-hit, spare-find, at-set, howMany-lacks, each-set, find-miss, inside-at}
+use Rattle.fragment_assembler.specs.Call.{begin, known, fresh, settle, kept, dropped, finish, Work, returned, fragment, accepted, afterCall, opened, run, runAt, runLength, Settled, After}
+use Rattle.assembly_record.specs.Table.{victim, has, find, count, isTaken}
+use Rattle.assembly_record.specs.Fragments.{isWhole, brings, firstByte}
 use Rattle.fragment_assembler.specs.Inner.{RunOk}
-use Rattle.fragment_assembler.specs.Marks.{covers}
+use Rattle.assembly_record.specs.Marks.{covers}
 use Rattle.fragment_assembler.specs.Refusal.{Call, refusal}
-use Rattle.fragment_assembler.specs.Rules.{Sample, Ok, Distinct, Rests}
-use Rattle.fragment_assembler.specs.State.{Assembler, Place, free, at}
-use Rattle.fragment_assembler.specs.Table.{has, find, count, isTaken}
+use Rattle.assembly_record.specs.Rules.{Sample, Ok, Distinct, Rests}
+use Rattle.assembly_record.specs.State.{Assembler, Place, free, at}
 
 pub begin-known : (a : Assembler) (area : List ℕ) (c : Call) → has (a .places) (c .number) ≡ true → begin a area c ≡ known a area c
 unfolding begin

@@ -12,11 +12,11 @@ use Rattle.fragment_assembler.specs.Clean.{cleanedOf, cleaning, Cleaning
 use Rattle.fragment_assembler.specs.Missing.{listedOf, missed, Missed}
 use Rattle.fragment_assembler.specs.Promise.{SetsUp, Does, Cleans, Misses}
 use Rattle.fragment_assembler.specs.Refusal.{Call}
-use Rattle.fragment_assembler.specs.Rules.{Good}
+use Rattle.assembly_record.specs.Rules.{Good}
 use Rattle.fragment_assembler.specs.SetUp.{startedOf, setting, Setting}
-use Rattle.fragment_assembler.specs.Table.{inAssembly, count}
+use Rattle.assembly_record.specs.Table.{inAssembly, count}
 use Rattle.fragment_assembler.specs.View.{shown}
-use Rattle.fragment_assembler.specs.Words.{stateOf, recordOf}
+use Rattle.assembly_record.specs.Words.{stateOf, recordOf}
 use Rattle.fragment_assembler.specs.declared.Answer.{Answer}
 use Rattle.fragment_assembler.specs.declared.Start.{Start}
 use Rattle.fragment_assembler.specs.declared.Cleaned.{Cleaned}

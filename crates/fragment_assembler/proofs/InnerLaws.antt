@@ -11,42 +11,26 @@ use lib.Dec.{eqb}
 use borrow.Author.Tests.{lt-ltb, le-ltb}
 use Rattle.sequence_number.specs.Outcome.{Outcome, refused, done}
 use Rattle.fragment_assembler.proofs.CallLaws.{settle-kept, victim-found, settle-dropped, finish-whole, finish-not, inside, run-start, fragment-accepted, fragment-ok, fragment-refused, begin-known, opened-sample, begin-fresh}
-use Rattle.fragment_assembler.proofs.FragmentsLaws.{fragment-starts}
+use Rattle.assembly_record.proofs.FragmentsLaws.{fragment-starts}
 use Rattle.fragment_assembler.proofs.RefusalLaws.{Passed, passed}
-use Rattle.fragment_assembler.proofs.RulesLaws.{good-mode, rests-sample, good-spare}
-use Rattle.fragment_assembler.proofs.TableLaws.{find-hit, find-some}
-use Rattle.fragment_assembler.proofs.WordsLaws.{head-same, round, became-then, length-places, size-at}
-use Rattle.fragment_assembler.specs.Call.{Settled, settle, victim, dropped, isWhole, finish, returned, fragment, run, Work, begin, accepted, afterCall, fateOf, Fate, After, opened}
-use Rattle.fragment_assembler.specs.Fragments.{fragments, brings}
-use Rattle.fragment_assembler.specs.Inner.{Became, Ends, workOf, Closes, Runs, ran, Worked, RunOk, openedRow}
-use Rattle.fragment_assembler.specs.Marks.{all, marked}
+use Rattle.assembly_record.proofs.RulesLaws.{rests-sample, good-spare, good-became}
+use Rattle.assembly_record.proofs.TableLaws.{find-hit, find-some}
+use Rattle.assembly_record.proofs.WordsLaws.{head-same, became-then, length-places, size-at, state-became, same}
+use Rattle.fragment_assembler.specs.Call.{Settled, settle, dropped, finish, returned, fragment, run, Work, begin, accepted, afterCall, fateOf, Fate, After, opened}
+use Rattle.assembly_record.specs.Table.{victim, find, count, has}
+use Rattle.assembly_record.specs.Fragments.{isWhole, fragments, brings}
+use Rattle.assembly_record.specs.Rows.{Became, ran, openedRow}
+use Rattle.fragment_assembler.specs.Inner.{Ends, workOf, Closes, Runs, Worked, RunOk}
+use Rattle.assembly_record.specs.Marks.{all, marked}
 use Rattle.fragment_assembler.specs.Promise.{Does}
 use Rattle.fragment_assembler.specs.Refusal.{Call, refusal, callOf}
-use Rattle.fragment_assembler.specs.Rules.{Good, Ok}
-use Rattle.fragment_assembler.specs.State.{at, Place, withPlaces, free, Assembler}
-use Rattle.fragment_assembler.specs.Table.{find, count, has}
-use Rattle.fragment_assembler.specs.Words.{stateOf, placesOf, placeOf}
+use Rattle.assembly_record.specs.Rules.{Good, Ok}
+use Rattle.assembly_record.specs.State.{at, Place, withPlaces, free, Assembler}
+use Rattle.assembly_record.specs.Words.{stateOf, placesOf, placeOf}
 use Rattle.fragment_assembler.specs.declared.Answer.{Answer}
 use Rattle.fragment_assembler.specs.declared.Answer.the-variants.{Refused, Kept, Returned, Dropped}
 
--- ---- the record's state
-
-pub state-became : (w : List ℕ) (ps : List Place) (w′ : List ℕ) → Became w ps w′ → stateOf w′ ≡ withPlaces (stateOf w) ps
-state-became w ps w′ b =
-    let u = head-same w w′ 0 (omega arith) (b .head) in
-    let p = head-same w w′ 1 (omega arith) (b .head) in
-    let m = head-same w w′ 2 (omega arith) (b .head) in
-    let q = b .places in
-    cc
-
-pub same : (w : List ℕ) → length w ≡ 906 → Became w (placesOf w) w
-same w e = record { head = refl; long = e; places = refl }
-
--- words whose state keeps the rules keep theirs
-pub good-became : (w : List ℕ) (ps : List Place) (w′ : List ℕ) → Good w → Became w ps w′ → Ok (stateOf w′) → Good w′
-good-became w ps w′ g b k =
-    let m : getD w′ 2 0 ≤ 1 = subst (λ (n : ℕ). n ≤ 1) (sym (head-same w w′ 2 (omega arith) (b .head))) (good-mode w g) in
-    record { long = b .long; made = sym (round w′ (b .long) m); ok = k }
+-- ---- the end of a call, under other names
 
 ends-as : (w : List ℕ) (s s′ : Settled) (r : Answer) (w′ : List ℕ) → s ≡ s′ → Ends w s r w′ → Ends w s′ r w′
 ends-as w s s′ r w′ e h = subst (λ (x : Settled). Ends w x r w′) e h
@@ -94,17 +78,6 @@ module _ (w : List ℕ) (seat : ℕ) where
 module _ (w : List ℕ) (seat : ℕ) (o : Bool) (h : Closes w seat o) where
   pub close-size : getD w (3 + 7 * seat + 1) 0 ≤ 65536
   close-size = omega (arith, size-at w seat (h .within), h .size)
-
-  -- the code's count of fragments, and its test of the marks
-  module _ (n : ℕ) (e : n ≡ fragments (getD w (3 + 7 * seat + 1) 0) (getD w 0 0)) where
-    counted : n ≡ fragments (at (placesOf w) seat .size) (getD w 0 0)
-    counted = e ∙ ap (λ (x : ℕ). fragments x (getD w 0 0)) (size-at w seat (h .within))
-
-    pub close-few : n ≤ 256
-    close-few = omega (arith, counted, h .few)
-
-    pub close-test : (r b : Bool) → r ≡ all (marked (at (placesOf w) seat .marks)) n → r ≡ b → isWhole (getD w 0 0) (at (placesOf w) seat) ≡ b
-    close-test r b k t = ap (all (marked (at (placesOf w) seat .marks))) (sym counted) ∙ sym k ∙ t
 
 -- a place that was stored at the seat already does not count
 finish-over : (a : Assembler) (i : ℕ) (q p : Place) (l l′ : List ℕ) → finish (withPlaces a (set (a .places) i q)) (workOf i p l) ≡ finish a (workOf i p l′)

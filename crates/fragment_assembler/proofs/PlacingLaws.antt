@@ -12,17 +12,17 @@ use lib.Seq.{paste}
 use borrow.Author.Tests.{le-leb, eq-eqb, ne-eqb}
 use Rattle.sequence_number.specs.Outcome.{refused, done}
 use Rattle.sequence_number.proofs.Split.{split, split-eq}
-use Rattle.fragment_assembler.proofs.AreaLaws.{paste-left, paste-right, paste-in}
+use Rattle.assembly_record.proofs.AreaLaws.{paste-left, paste-right, paste-in}
 use Rattle.fragment_assembler.proofs.CallLaws.{Begun, begun, fragment-accepted, begin-known, begin-fresh, ran-long, run-long, inside, run-within, finish-whole, finish-not, fragment-refused}
-use Rattle.fragment_assembler.proofs.MarksLaws.{marked-run}
+use Rattle.assembly_record.proofs.MarksLaws.{marked-run}
 use Rattle.fragment_assembler.proofs.RefusalLaws.{Passed, passed, first-exactly}
-use Rattle.fragment_assembler.specs.Call.{fragment, run, Work, begin, accepted, After, fresh, runLength, runAt, finish, Settled, returned, isWhole, dropped, victim, settle, kept}
-use Rattle.fragment_assembler.specs.Fragments.{firstByte, endByte}
-use Rattle.fragment_assembler.specs.Marks.{marked, covers}
+use Rattle.fragment_assembler.specs.Call.{fragment, run, Work, begin, accepted, After, fresh, runLength, runAt, finish, Settled, returned, dropped, settle, kept}
+use Rattle.assembly_record.specs.Fragments.{isWhole, firstByte, endByte}
+use Rattle.assembly_record.specs.Table.{victim, count, has, find}
+use Rattle.assembly_record.specs.Marks.{marked, covers}
 use Rattle.fragment_assembler.specs.Refusal.{Call, refusal, GivenBy, rows}
-use Rattle.fragment_assembler.specs.Rules.{Ok}
-use Rattle.fragment_assembler.specs.State.{Assembler, at, free, Place}
-use Rattle.fragment_assembler.specs.Table.{count, has, find}
+use Rattle.assembly_record.specs.Rules.{Ok}
+use Rattle.assembly_record.specs.State.{Assembler, at, free, Place}
 use Rattle.fragment_assembler.specs.View.{shown}
 
 outside : (d : List ℕ) (i : ℕ) (s : List ℕ) (n : ℕ) → i + n ≤ length d → n ≤ length s → (x : ℕ) → (x < i) ⊎ (i + n ≤ x)

@@ -13,28 +13,30 @@ use Rattle.sequence_number.specs.Number.{top, numberOf, isNumber}
 use Rattle.sequence_number.specs.Lent.{over}
 use Rattle.sequence_number.specs.Outcome.{refused, done}
 use Rattle.fragment_assembler.proofs.CallLaws.{fragment-ok}
-use Rattle.fragment_assembler.proofs.CleanLaws.{clean-cases, clean-ok, at-sweep, swept-early, swept-late}
-use Rattle.fragment_assembler.proofs.FragmentsLaws.{fragments-cover, fragment-starts, fragments-some, fragments-on-paper}
+use Rattle.fragment_assembler.proofs.CleanLaws.{clean-cases, clean-ok}
+use Rattle.assembly_record.proofs.SweepLaws.{at-sweep, swept-early, swept-late}
+use Rattle.assembly_record.proofs.FragmentsLaws.{fragments-cover, fragment-starts, fragments-some, fragments-on-paper}
 use Rattle.fragment_assembler.proofs.MissingLaws.{missing-cases, missing-members, missing-rises, missing-absent}
 use Rattle.fragment_assembler.proofs.PlacingLaws.{placed-seat, placed-long, placed-run, placed-fragment, placed-zero, placed-others, placed-others-opening, ran-as, ends-returned, ends-drops, ends-keeps, ends-dropped-only, ends-returned-only, refused-exactly, refused-leaves, shown-whole}
 use Rattle.fragment_assembler.proofs.RefusalLaws.{number-row}
-use Rattle.fragment_assembler.proofs.RulesLaws.{ok-back, ok-good}
+use Rattle.assembly_record.proofs.RulesLaws.{ok-back, ok-good}
 use Rattle.fragment_assembler.proofs.SetUpLaws.{set-up-exactly, empty-ok, set-up-record}
-use Rattle.fragment_assembler.proofs.StaleLaws.{listed-rising, listed-stale, stale-listed}
-use Rattle.fragment_assembler.proofs.TableLaws.{highest-found, highest-ge, lowest-found, lowest-le, query-found, query-finds}
-use Rattle.fragment_assembler.specs.Call.{fragment, Work, begin, run, runLength, runAt, kept, returned, isWhole, dropped, victim}
-use Rattle.fragment_assembler.specs.Clean.{clean, staleNumbers, cleaning, sweep}
-use Rattle.fragment_assembler.specs.Fragments.{fragments, fragmentsOnPaper, firstByte, endByte}
-use Rattle.fragment_assembler.specs.Marks.{marked, covers}
+use Rattle.assembly_record.proofs.StaleLaws.{listed-rising, listed-stale, stale-listed}
+use Rattle.assembly_record.proofs.TableLaws.{highest-found, highest-ge, lowest-found, lowest-le, query-found, query-finds}
+use Rattle.fragment_assembler.specs.Call.{fragment, Work, begin, run, runLength, runAt, kept, returned, dropped}
+use Rattle.assembly_record.specs.Fragments.{isWhole, fragments, fragmentsOnPaper, firstByte, endByte}
+use Rattle.assembly_record.specs.Table.{victim, has, find, count, inAssembly}
+use Rattle.fragment_assembler.specs.Clean.{clean, cleaning}
+use Rattle.assembly_record.specs.Stale.{staleNumbers, sweep}
+use Rattle.assembly_record.specs.Marks.{marked, covers}
 use Rattle.fragment_assembler.specs.Missing.{missing, missingFor, missed}
 use Rattle.fragment_assembler.specs.Promise.{SetsUp}
 use Rattle.fragment_assembler.specs.Refusal.{Call, refusal, GivenBy, rows}
-use Rattle.fragment_assembler.specs.Rules.{Ok, Good, Distinct}
+use Rattle.assembly_record.specs.Rules.{Ok, Good, Distinct}
 use Rattle.fragment_assembler.specs.SetUp.{setUp, setUpRows, setting, empty, startedOf}
-use Rattle.fragment_assembler.specs.State.{Assembler, free, at, Place, withPlaces}
-use Rattle.fragment_assembler.specs.Table.{has, find, count, inAssembly}
+use Rattle.assembly_record.specs.State.{Assembler, free, at, Place, withPlaces}
 use Rattle.fragment_assembler.specs.View.{shown}
-use Rattle.fragment_assembler.specs.Words.{stateOf, recordOf}
+use Rattle.assembly_record.specs.Words.{stateOf, recordOf}
 use Rattle.fragment_assembler.specs.declared.Start.{Start}
 
 -- ==== Fragments

@@ -9,15 +9,19 @@ use mathlib.Core.List.{List, [], _∷_}
 use lib.ListN.{length}
 use lib.IntN.{ℤ, pos, negsuc}
 use lib.Dec.{ltb, leb, eqb, T}
+use mir.Syntax.{w64}
+use mir.Val.{SFits, ofZ, toZ}
+use mir.Facts.{toZ-ofZ}
 use borrow.Author.Tests.{ltb-false, leb-false, eqb-true, eqb-false, not-false, lt-ltb, le-ltb, lt-leb, eq-eqb, ne-eqb}
 use Rattle.sequence_number.specs.Number.{top, numberOf, isNumber}
+use Rattle.sequence_number.proofs.NumberLaws.{number-passed}
 use Rattle.sequence_number.proofs.Split.{split, split-lt}
 use Rattle.fragment_assembler.specs.Call.{opened}
-use Rattle.fragment_assembler.specs.Fragments.{fragments}
+use Rattle.assembly_record.specs.Fragments.{fragments}
 use Rattle.fragment_assembler.specs.Inner.{RunOk}
 use Rattle.fragment_assembler.specs.Refusal.{runRefusal, rows, row, Call, refusal, opens, first, runRows, Row, callOf, sizeFor, GivenBy}
-use Rattle.fragment_assembler.specs.State.{Assembler, at}
-use Rattle.fragment_assembler.specs.Table.{count, find, has}
+use Rattle.assembly_record.specs.State.{Assembler, at}
+use Rattle.assembly_record.specs.Table.{count, find, has}
 
 module _ (most start count : ℕ) where
   pub run-10 : count ≡ 0 → 10 ≡ runRefusal most start count
@@ -188,3 +192,7 @@ number-row (pos n) =
     (λ a.
     ⊎-elim (λ b. rw (lt-ltb 0 n a, lt-ltb n top b, ne-eqb n 0 (λ z. omega arith), lt-leb top n b)) (λ b. rw (lt-ltb 0 n a, le-ltb n top b)) (split-lt n top))
     (λ a. rw (le-ltb 0 n a)) (split-lt 0 n)
+
+-- a number as a call takes it is 0 or below the last
+pub number-taken : (n : ℤ) (k : ℕ) → SFits w64 n → k ≡ numberOf (toZ w64 (ofZ w64 n)) → (k ≡ numberOf n) × (k < top)
+number-taken n k f e = (rw (toZ-ofZ f) at e, ⊎-elim (λ z. omega (arith, z .0)) (λ z. z .1) (number-passed n k f e))

@@ -13,14 +13,14 @@ use Rattle.sequence_number.specs.Lent.{over}
 use Rattle.sequence_number.specs.Outcome.{refused, done}
 use Rattle.sequence_number.proofs.Split.{split}
 use Rattle.fragment_assembler.proofs.RefusalLaws.{first-exactly}
-use Rattle.fragment_assembler.proofs.RulesLaws.{ok-good}
+use Rattle.assembly_record.proofs.RulesLaws.{ok-good}
 use Rattle.fragment_assembler.specs.Promise.{SetsUp}
 use Rattle.fragment_assembler.specs.Refusal.{GivenBy}
-use Rattle.fragment_assembler.specs.Rules.{Ok, Good}
+use Rattle.assembly_record.specs.Rules.{Ok, Good}
 use Rattle.fragment_assembler.specs.SetUp.{empty, setUp, setUpRefusal, setting, setUpRows, startedOf}
-use Rattle.fragment_assembler.specs.State.{at, free, Place}
-use Rattle.fragment_assembler.specs.Table.{count}
-use Rattle.fragment_assembler.specs.Words.{tableOf, bit, recordOf}
+use Rattle.assembly_record.specs.State.{at, free, Place}
+use Rattle.assembly_record.specs.Table.{count}
+use Rattle.assembly_record.specs.Words.{tableOf, bit, recordOf}
 use Rattle.fragment_assembler.specs.declared.Start.{Start}
 use Rattle.fragment_assembler.specs.declared.Start.the-variants.{Refused, Ready}
 

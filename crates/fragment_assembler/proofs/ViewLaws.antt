@@ -6,7 +6,7 @@ use mathlib.Core.Path.{_≡_}
 use mathlib.Core.List.{List}
 use lib.ListN.{length, take, drop}
 use borrow.Author.Tests.{le-leb, lt-leb}
-use Rattle.fragment_assembler.specs.State.{Assembler}
+use Rattle.assembly_record.specs.State.{Assembler}
 use Rattle.fragment_assembler.specs.View.{shown}
 
 module _ (a : Assembler) (area : List ℕ) (i n : ℕ) where

@@ -8,10 +8,10 @@ use lib.Dec.{eqb}
 use Rattle.sequence_number.specs.Outcome.{Outcome, refused, done}
 use Rattle.fragment_assembler.specs.declared.Answer.{Answer}
 use Rattle.fragment_assembler.specs.declared.Answer.the-variants.{Refused, Kept, Returned, Dropped}
-use Rattle.fragment_assembler.specs.State.{Place, Assembler, free, at, withPlaces}
-use Rattle.fragment_assembler.specs.Table.{find, has, count, highestOf, lowestOf}
-use Rattle.fragment_assembler.specs.Marks.{marked, markRun, all}
-use Rattle.fragment_assembler.specs.Fragments.{fragments, firstByte, brings}
+use Rattle.assembly_record.specs.State.{Place, Assembler, free, at, withPlaces}
+use Rattle.assembly_record.specs.Table.{find, has, count, victim}
+use Rattle.assembly_record.specs.Marks.{markRun}
+use Rattle.assembly_record.specs.Fragments.{firstByte, brings, isWhole}
 use Rattle.fragment_assembler.specs.Refusal.{Call, refusal}
 
 -- what an accepted call did to which number: "the answer says which happened, with the number, and for a return its place and length"
@@ -80,20 +80,12 @@ pub record Settled : Type 0 where
   pub answer : Fate
   pub places : List Place
 
--- "the highest number is dropped (reliable) or the lowest (best effort)"
-abbrev pub victim : Bool → List Place → ℕ
-victim reliable ps = cond reliable (highestOf ps) (lowestOf ps)
-
 -- "Otherwise, if 129 are in assembly", one is dropped; "this may be the one just opened"
 unfoldable pub settle : Bool → List Place → Settled
 settle reliable ps =
     cond (eqb (count ps) 129)
     (record { answer = dropped (victim reliable ps); places = set ps (find (victim reliable ps) ps) free })
     (record { answer = kept; places = ps })
-
--- whether all fragments of a place are marked
-abbrev pub isWhole : ℕ → Place → Bool
-isWhole f p = all (marked (p .marks)) (fragments (p .size) f)
 
 -- "All marked: returned, place freed." It is asked before anything is dropped.
 unfoldable pub finish : Assembler → Work → Settled

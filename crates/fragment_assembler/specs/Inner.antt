@@ -2,32 +2,18 @@
 use Prim.Native.Nat.{ℕ, _+_, _*_, _-_, _<_, _≤_}
 use mathlib.Core.Path.{_≡_}
 use mathlib.Core.Bool.{Bool, false}
-use mathlib.Core.List.{List, [], _∷_}
-use lib.ListN.{length, getD, take}
+use mathlib.Core.List.{List}
+use lib.ListN.{length, getD}
 use Rattle.sequence_number.specs.Outcome.{done}
 use Rattle.fragment_assembler.specs.declared.Answer.{Answer}
-use Rattle.fragment_assembler.specs.State.{Place, at}
-use Rattle.fragment_assembler.specs.Table.{find}
-use Rattle.fragment_assembler.specs.Marks.{markRun}
-use Rattle.fragment_assembler.specs.Fragments.{fragments}
+use Rattle.assembly_record.specs.Rows.{Became}
+use Rattle.assembly_record.specs.State.{Place, at}
+use Rattle.assembly_record.specs.Table.{find}
+use Rattle.assembly_record.specs.Fragments.{fragments}
 use Rattle.fragment_assembler.specs.Refusal.{Call}
 use Rattle.fragment_assembler.specs.Call.{Work, Settled, fateOf, run, finish}
-use Rattle.fragment_assembler.specs.Words.{placesOf, stateOf}
-use Rattle.fragment_assembler.specs.Rules.{Sample}
-
--- the record became one with other places: its first three words and its length are as they were
-pub record Became (w : List ℕ) (ps : List Place) (w′ : List ℕ) : Type 0 where
-  pub head : take 3 w′ ≡ take 3 w
-  pub long : length w′ ≡ 906
-  pub places : placesOf w′ ≡ ps
-
--- the row of a place just opened
-abbrev pub openedRow : ℕ → ℕ → List ℕ
-openedRow number size = number ∷ (size ∷ (0 ∷ (0 ∷ (0 ∷ (0 ∷ (0 ∷ []))))))
-
--- a place after a run of n fragments from k, counted from 0
-abbrev pub ran : Place → ℕ → ℕ → ℕ → ℕ → Place
-ran p number time k n = record { number = number; size = p .size; time = time; marks = markRun (p .marks) k n }
+use Rattle.assembly_record.specs.Words.{placesOf, stateOf}
+use Rattle.assembly_record.specs.Rules.{Sample}
 
 abbrev pub workOf : ℕ → Place → List ℕ → Work
 workOf i p area = record { seat = i; place = p; area = area }

@@ -1,11 +1,5 @@
-pub mod State
-pub mod Table
-pub mod Marks
-pub mod Fragments
 pub mod Refusal
 pub mod Call
-pub mod Words
-pub mod Rules
 pub mod SetUp
 pub mod Clean
 pub mod Missing

@@ -1,27 +1,22 @@
 -- The missing fragments of a number: "listed the same way, numbered from 1; a number not in assembly gives an empty list". Assumes nothing.
-use Prim.Native.Nat.{ℕ, zero, suc}
+use Prim.Native.Nat.{ℕ}
 use mathlib.Core.Bool.{cond}
-use mathlib.Core.List.{List, [], _∷_, _++_}
+use mathlib.Core.List.{List, []}
 use lib.ListN.{length}
 use lib.Dec.{ltb}
 use Rattle.sequence_number.specs.Outcome.{Outcome, refused, done}
 use Rattle.sequence_number.specs.Lent.{over}
 use Rattle.fragment_assembler.specs.declared.Listing.{Listing}
 use Rattle.fragment_assembler.specs.declared.Listing.the-variants.{Refused, Listed}
-use Rattle.fragment_assembler.specs.State.{Assembler, at}
-use Rattle.fragment_assembler.specs.Table.{find, inAssembly}
-use Rattle.fragment_assembler.specs.Marks.{marked}
-use Rattle.fragment_assembler.specs.Fragments.{fragments}
+use Rattle.assembly_record.specs.State.{Assembler, at}
+use Rattle.assembly_record.specs.Table.{find, inAssembly}
+use Rattle.assembly_record.specs.Marks.{gaps}
+use Rattle.assembly_record.specs.Fragments.{fragments}
 
 -- what an answer says: how many fragments were written
 abbrev pub listedOf : Listing → Outcome ℕ
 listedOf (Refused n) = refused n
 listedOf (Listed n) = done n
-
--- the fragments from 1 to n that are not marked, rising
-abbrev pub gaps : List ℕ → ℕ → List ℕ
-gaps m zero = []
-gaps m (suc n) = gaps m n ++ cond (marked m n) [] (suc n ∷ [])
 
 -- those of a number in assembly; none of another
 unfoldable pub missing : Assembler → ℕ → List ℕ

@@ -13,8 +13,8 @@ use Rattle.fragment_assembler.specs.declared.Cleaned.{Cleaned}
 use Rattle.fragment_assembler.specs.declared.Listing.{Listing}
 use Rattle.fragment_assembler.specs.Refusal.{Call}
 use Rattle.fragment_assembler.specs.Call.{fateOf, afterCall, fragment}
-use Rattle.fragment_assembler.specs.Words.{stateOf}
-use Rattle.fragment_assembler.specs.Rules.{Good}
+use Rattle.assembly_record.specs.Words.{stateOf}
+use Rattle.assembly_record.specs.Rules.{Good}
 use Rattle.fragment_assembler.specs.SetUp.{startedOf, setting, setUp}
 use Rattle.fragment_assembler.specs.Clean.{cleanedOf, clean, cleaning}
 use Rattle.fragment_assembler.specs.Missing.{listedOf, missed, missingFor}

@@ -6,9 +6,9 @@ use mathlib.Core.Logic.{_⊎_}
 use mathlib.Core.List.{List, [], _∷_}
 use lib.Dec.{ltb, leb, eqb}
 use Rattle.sequence_number.specs.Number.{top}
-use Rattle.fragment_assembler.specs.State.{Assembler, at}
-use Rattle.fragment_assembler.specs.Table.{find, has}
-use Rattle.fragment_assembler.specs.Fragments.{fragments}
+use Rattle.assembly_record.specs.State.{Assembler, at}
+use Rattle.assembly_record.specs.Table.{find, has}
+use Rattle.assembly_record.specs.Fragments.{fragments}
 
 -- What a fragment call passes: the time, the number (`numberOf`: 0 for one that row 4 refuses), the fragment's size, the data size, the run's start k
 -- and its count n, and the payload.

@@ -8,9 +8,9 @@ use Rattle.sequence_number.specs.Outcome.{Outcome, refused, done}
 use Rattle.sequence_number.specs.Lent.{over}
 use Rattle.fragment_assembler.specs.declared.Start.{Start}
 use Rattle.fragment_assembler.specs.declared.Start.the-variants.{Refused, Ready}
-use Rattle.fragment_assembler.specs.State.{Assembler, free}
+use Rattle.assembly_record.specs.State.{Assembler, free}
 use Rattle.fragment_assembler.specs.Refusal.{Row, row, first}
-use Rattle.fragment_assembler.specs.Words.{recordOf}
+use Rattle.assembly_record.specs.Words.{recordOf}
 
 -- what an answer says: an accepted set-up finds nothing, the record is ready
 abbrev pub startedOf : Start → Outcome (Unit {0})

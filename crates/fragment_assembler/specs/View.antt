@@ -4,7 +4,7 @@ use mathlib.Core.Bool.{cond}
 use mathlib.Core.List.{List, []}
 use lib.ListN.{length, take, drop}
 use lib.Dec.{leb}
-use Rattle.fragment_assembler.specs.State.{Assembler}
+use Rattle.assembly_record.specs.State.{Assembler}
 
 -- place i starts at i * p
 unfoldable pub shown : Assembler → List ℕ → ℕ → ℕ → List ℕ

@@ -1,45 +1,42 @@
 // Blocks put together from fragments: rustdds 0.15.1, src/rtps/fragment_assembler.rs. The record is lent as words, and a block lies in a place of the lent area.
-use crate::clean::how_many;
-use crate::clean::list;
-use crate::clean::sweep_all;
-use crate::layout::MARK_WORDS;
-use crate::layout::MARKS;
-use crate::layout::MODE;
-use crate::layout::MOST_ROOM;
-use crate::layout::PLACES;
-use crate::layout::RECORD;
-use crate::layout::ROOM;
-use crate::layout::ROW;
-use crate::layout::SIZE;
-use crate::layout::TABLE;
-use crate::layout::UNIT;
-use crate::marks::count_gaps;
-use crate::marks::list_gaps;
-use crate::refusal::count_of;
-use crate::rows::wipe;
 use crate::settle::take_frags;
-use crate::table::seek;
+use assembly_record::clean::how_many;
+use assembly_record::clean::list;
+use assembly_record::clean::sweep_all;
+use assembly_record::layout::MARK_WORDS;
+use assembly_record::layout::MARKS;
+use assembly_record::layout::MODE;
+use assembly_record::layout::PLACES;
+use assembly_record::layout::RECORD;
+use assembly_record::layout::ROOM;
+use assembly_record::layout::ROW;
+use assembly_record::layout::SIZE;
+use assembly_record::layout::TABLE;
+use assembly_record::layout::UNIT;
+use assembly_record::marks::count_gaps;
+use assembly_record::marks::list_gaps;
+use assembly_record::rows::wipe;
+use assembly_record::table::seek;
 use sequence_number::number::number_of;
 ghost use mathlib.Core.Path.{_≡_};
 ghost use mathlib.Core.List.{_∷_};
+ghost use Prim.Native.Nat.{_<_};
 ghost use lib.ListN.{replicate};
 ghost use lib.ListN as lists;
 ghost use Rattle.sequence_number.specs.Number.{numberOf};
-ghost use Rattle.fragment_assembler.specs.Table.{inAssembly, count};
-ghost use Rattle.fragment_assembler.specs.Words.{stateOf, bit};
+ghost use Rattle.assembly_record.specs.Fragments.{fragments};
+ghost use Rattle.assembly_record.specs.Table.{inAssembly, count};
+ghost use Rattle.assembly_record.specs.Words.{stateOf, bit};
 ghost use Rattle.fragment_assembler.specs.View.{shown};
 ghost use Rattle.fragment_assembler.specs.Refusal.{callOf};
-ghost use Rattle.fragment_assembler.specs.Rules.{Good};
+ghost use Rattle.assembly_record.specs.Rules.{Good};
 ghost use Rattle.fragment_assembler.specs.Promise.{SetsUp, Does, Cleans, Misses};
 
-mod area;
-mod clean;
-mod layout;
-mod marks;
 mod refusal;
-mod rows;
 mod settle;
-mod table;
+
+// The largest place.
+const MOST_ROOM: u32 = 65536;
 
 // What a call of set-up says.
 pub enum Start {
@@ -178,6 +175,16 @@ pub fn is_partially_received(t: &[u64], number: i64) -> bool
     }
     let at = seek(t, n);
     at < PLACES
+}
+
+// F, how many fragments a sample of d bytes has.
+fn count_of(d: u64, f: u64) -> usize
+    requires { ⌜ (0 < f) × ((f < 65536) × (d < 4294967296)) ⌝ }
+    ensures { λ r. ⌜ r ≡ fragments d f ⌝ }
+{
+    let x = d as usize;
+    let y = f as usize;
+    (x + (y - 1)) / y
 }
 
 // The missing fragments of a number, numbered from 1, written to the lent list, rising; none of a number that is not in assembly.

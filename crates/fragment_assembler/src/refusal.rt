@@ -1,33 +1,25 @@
 // The refusals of a fragment call, in the document's order.
-use crate::layout::MOST_FRAGMENTS;
-use crate::layout::PLACES;
-use crate::layout::ROOM;
-use crate::layout::ROW;
-use crate::layout::SIZE;
-use crate::layout::TABLE;
-use crate::layout::UNIT;
+use assembly_record::layout::PLACES;
+use assembly_record::layout::ROOM;
+use assembly_record::layout::ROW;
+use assembly_record::layout::SIZE;
+use assembly_record::layout::TABLE;
+use assembly_record::layout::UNIT;
 ghost use mathlib.Core.Path.{_≡_};
 ghost use mathlib.Core.List.{[]};
-ghost use Prim.Native.Nat.{_<_, _≤_};
+ghost use Prim.Native.Nat.{_<_};
 ghost use lib.ListN.{length};
 ghost use Rattle.sequence_number.specs.Number.{top};
-ghost use Rattle.fragment_assembler.specs.Table.{find};
-ghost use Rattle.fragment_assembler.specs.Fragments.{fragments};
+ghost use Rattle.assembly_record.specs.Table.{find};
+ghost use Rattle.assembly_record.specs.Fragments.{fragments};
 ghost use Rattle.fragment_assembler.specs.Refusal.{refusal, runRefusal, callOf};
-ghost use Rattle.fragment_assembler.specs.Words.{placesOf, stateOf};
-ghost use Rattle.fragment_assembler.specs.Rules.{Good};
+ghost use Rattle.assembly_record.specs.Words.{placesOf, stateOf};
+ghost use Rattle.assembly_record.specs.Rules.{Good};
 
-// F, how many fragments a sample of d bytes has.
-pub(crate) fn count_of(d: u64, f: u64) -> usize
-    requires { ⌜ (0 < f) × ((f < 65536) × (d < 4294967296)) ⌝ }
-    ensures { λ r. ⌜ r ≡ fragments d f ⌝ }
-{
-    let x = d as usize;
-    let y = f as usize;
-    (x + (y - 1)) / y
-}
+// The most fragments of a sample.
+const MOST_FRAGMENTS: u64 = 256;
 
-// 10, 11 and 12, on a sample of d bytes.
+// 10, 11 and 12, on a sample of d bytes: the last fragment of the run starts before its end.
 fn refuse_run(d: u64, f: u64, start: u32, count: u16) -> u8
     requires { ⌜ (0 < f) × ((f < 65536) × (d < 4294967296)) ⌝ }
     ensures { λ r. ⌜ r ≡ runRefusal (fragments d f) start count ⌝ }
@@ -38,11 +30,8 @@ fn refuse_run(d: u64, f: u64, start: u32, count: u16) -> u8
     if start == 0 {
         return 11;
     }
-    let k = (start - 1) as usize;
-    let n = count as usize;
-    let end = k + n;
-    let most = count_of(d, f);
-    if most < end {
+    let last = (start - 1) as u64 + (count - 1) as u64;
+    if d <= last * f {
         return 12;
     }
     0
@@ -87,8 +76,7 @@ pub(crate) fn refuse(
     if p < d {
         return 8;
     }
-    let most = count_of(d, f);
-    if MOST_FRAGMENTS < most {
+    if MOST_FRAGMENTS * f < d {
         return 9;
     }
     refuse_run(d, f, start, count)

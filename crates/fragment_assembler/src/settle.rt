@@ -1,33 +1,32 @@
 // A run put into its place, and the end of a call: returned, dropped or kept.
 use crate::Answer;
-use crate::area::clear_at;
-use crate::area::copy_at;
-use crate::area::less;
-use crate::layout::PLACES;
-use crate::layout::ROOM;
-use crate::layout::ROW;
-use crate::layout::SIZE;
-use crate::layout::TABLE;
-use crate::layout::UNIT;
-use crate::refusal::count_of;
 use crate::refusal::refuse;
-use crate::rows::open_at;
-use crate::rows::run_at;
-use crate::rows::whole_at;
-use crate::rows::wipe_at;
-use crate::table::pick_victim;
-use crate::table::seek;
+use assembly_record::area::clear_at;
+use assembly_record::area::copy_at;
+use assembly_record::area::less;
+use assembly_record::layout::PLACES;
+use assembly_record::layout::ROOM;
+use assembly_record::layout::ROW;
+use assembly_record::layout::SIZE;
+use assembly_record::layout::TABLE;
+use assembly_record::layout::UNIT;
+use assembly_record::rows::open_at;
+use assembly_record::rows::run_at;
+use assembly_record::rows::whole_at;
+use assembly_record::rows::wipe_at;
+use assembly_record::table::pick_victim;
+use assembly_record::table::seek;
 ghost use mathlib.Core.Path.{_≡_};
 ghost use mathlib.Core.List.{[]};
 ghost use Prim.Native.Nat.{_<_};
 ghost use lib.ListN.{length, getD};
 ghost use lib.Dec.{eqb};
 ghost use Rattle.sequence_number.specs.Number.{top};
-ghost use Rattle.fragment_assembler.specs.State.{at};
+ghost use Rattle.assembly_record.specs.State.{at};
 ghost use Rattle.fragment_assembler.specs.Refusal.{callOf};
 ghost use Rattle.fragment_assembler.specs.Call.{settle, finish};
-ghost use Rattle.fragment_assembler.specs.Words.{placesOf, stateOf};
-ghost use Rattle.fragment_assembler.specs.Rules.{Good};
+ghost use Rattle.assembly_record.specs.Words.{placesOf, stateOf};
+ghost use Rattle.assembly_record.specs.Rules.{Good};
 ghost use Rattle.fragment_assembler.specs.Promise.{Does};
 ghost use Rattle.fragment_assembler.specs.Inner.{Ends, Closes, workOf, Runs, Worked};
 
@@ -54,8 +53,7 @@ fn close(t: &mut [u64], seat: usize, opened: bool) -> Answer
     let b = TABLE + ROW * seat;
     let number = t[b];
     let d = t[b + SIZE];
-    let n = count_of(d, t[UNIT]);
-    if whole_at(t, seat, n) {
+    if whole_at(t, seat) {
         wipe_at(t, seat);
         return Answer::Returned {
             number,

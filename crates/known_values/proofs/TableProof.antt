@@ -1,21 +1,37 @@
--- Document 01's table holds: each row as its crate proves it, by computation. Assumes nothing.
-use Rattle.sequence_number.proofs.KnownValues as numbers
-use Rattle.fragment_assembler.proofs.KnownValues as fragments
-use Rattle.writer_proxy.proofs.KnownValues as proxy
+-- Document 01's table holds, by computation of the definitions. Assumes nothing.
+use native.Mathlib.Omega.{arith}
+use mathlib.Core.Logic.{inl}
+use mathlib.Core.Path.{_≡_, refl, ap}
+use mathlib.Core.List.{[]}
+use lib.IntN.{pos}
+use Rattle.proxy_record.specs.Entries.{below, from, putIn, runLen}
+use Rattle.proxy_record.specs.State.{begun, changed}
+use Rattle.proxy_core.specs.Calls.{noted, moveOn, discard, settled, capped, ended, receivedAt, received, without, skipped, putEach, rangeAt, irrelevantRange}
+use Rattle.proxy_core.proofs.RangeLaws.{gone, rangeIn, each-is}
+use Rattle.fragment_assembler.specs.Call.{fragment}
+use Rattle.assembly_record.specs.Fragments.{fragments}
+use Rattle.fragment_assembler.specs.Refusal.{rows}
+use Rattle.assembly_record.specs.Table.{has}
 use Rattle.known_values.specs.Table.{KnownValues}
 
+-- P10: a thousand numbers are put as one run
+range-10 : irrelevantRange (pos 2) (pos 1002) begun ≡ ended (changed (rangeIn 2 1002 []) begun)
+unfolding irrelevantRange rangeAt
+range-10 = ap ended (each-is 1000 2 begun tt (omega arith))
+
 pub known-values : KnownValues
+unfolding fragments rows has fragment received receivedAt noted settled moveOn discard ended capped irrelevantRange rangeAt skipped without putEach putIn below from runLen rangeIn gone
 known-values =
     record {
-      P1 = numbers.P1;
-      P2 = numbers.P2;
-      P3 = numbers.P3;
-      P4 = numbers.P4;
-      P5 = numbers.P5;
-      P6 = numbers.P6;
-      P7 = fragments.P7;
-      P8 = fragments.P8;
-      P9 = proxy.p9;
-      P10 = proxy.p10;
-      P11 = proxy.p11;
+      P1 = refl;
+      P2 = refl;
+      P3 = refl;
+      P4 = refl;
+      P5 = (refl, refl);
+      P6 = refl;
+      P7 = (refl, refl);
+      P8 = λ reliable area e. rw e (refl, refl, refl, refl);
+      P9 = refl;
+      P10 = rw range-10 (refl, refl);
+      P11 = (refl, inl refl);
     }

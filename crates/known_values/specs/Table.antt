@@ -10,7 +10,7 @@ use Rattle.sequence_number.specs.Kind.{sequence, sequenceBytes}
 use Rattle.sequence_number.specs.NumberSet.{NumberSet, emptyAt}
 use Rattle.sequence_number.specs.Make.{makeSet}
 use Rattle.sequence_number.specs.declared.ByteOrder.the-variants.{Little}
-use Rattle.fragment_assembler.specs.Fragments.{fragments}
+use Rattle.assembly_record.specs.Fragments.{fragments}
 use Rattle.fragment_assembler.specs.Refusal.{Call, callOf, refusal}
 use Rattle.fragment_assembler.specs.Call.{fragment}
 use Rattle.fragment_assembler.specs.SetUp.{empty}

@@ -6,7 +6,7 @@ use sequence_number::set::SequenceNumberSet;
 use writer_proxy::missing::Listing;
 ghost use mathlib.Core.Path.{_≡_};
 ghost use lib.ListN.{length};
-ghost use Rattle.fragment_assembler.specs.Rules.{Good};
+ghost use Rattle.assembly_record.specs.Rules.{Good};
 ghost use Rattle.proxy_record.specs.Record.{Good as GoodProxy};
 
 fn say(text: &[u8]) {

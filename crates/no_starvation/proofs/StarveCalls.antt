@@ -15,11 +15,11 @@ use Rattle.fragment_assembler.specs.Call.{After, fateOf, accepted, fragment}
 use Rattle.fragment_assembler.specs.Clean.{Cleaning}
 use Rattle.fragment_assembler.specs.Promise.{Does, Cleans}
 use Rattle.fragment_assembler.specs.Refusal.{Call, refusal}
-use Rattle.fragment_assembler.specs.Rules.{Good}
+use Rattle.assembly_record.specs.Rules.{Good}
 use Rattle.no_starvation.specs.Starve.{after, moment, arrives, said, cleans, isRefused, Run, Calls, Chain, Moment, runOf, returns, Bounded, Cut, Answered}
-use Rattle.fragment_assembler.specs.State.{Assembler}
+use Rattle.assembly_record.specs.State.{Assembler}
 use Rattle.fragment_assembler.specs.View.{shown}
-use Rattle.fragment_assembler.specs.Words.{stateOf}
+use Rattle.assembly_record.specs.Words.{stateOf}
 use Rattle.fragment_assembler.specs.declared.Answer.{Answer}
 use Rattle.fragment_assembler.specs.declared.Cleaned.{Cleaned}
 use Rattle.no_starvation.specs.Starve as starve

@@ -11,13 +11,14 @@ use lib.IntN.{pos}
 use Rattle.sequence_number.specs.Outcome.{done}
 use Rattle.fragment_assembler.proofs.SetUpLaws.{empty-ok}
 use Rattle.fragment_assembler.specs.Call.{fragment, begin, run, accepted, finish, settle, returned}
-use Rattle.fragment_assembler.specs.Clean.{clean, staleNumbers}
-use Rattle.fragment_assembler.specs.Fragments.{fragments}
-use Rattle.fragment_assembler.specs.Marks.{marked, mark}
+use Rattle.fragment_assembler.specs.Clean.{clean}
+use Rattle.assembly_record.specs.Stale.{staleNumbers}
+use Rattle.assembly_record.specs.Fragments.{fragments}
+use Rattle.assembly_record.specs.Marks.{marked, mark}
 use Rattle.fragment_assembler.specs.Refusal.{Call, callOf, rows}
 use Rattle.fragment_assembler.specs.SetUp.{empty}
 use Rattle.no_starvation.specs.Starve.{Moment, moment, after, arrives, cleans, Run, runOf, Chain, looks, said}
-use Rattle.fragment_assembler.specs.Table.{has}
+use Rattle.assembly_record.specs.Table.{has}
 use Rattle.fragment_assembler.specs.View.{shown}
 use Rattle.no_starvation.specs.Starve as starve
 

@@ -14,25 +14,27 @@ use lib.Dec.{eqb}
 use borrow.Author.Tests.{ltb-true, ltb-false, leb-true, leb-false, lt-ltb, le-ltb, eq-eqb, ne-eqb}
 use Rattle.sequence_number.specs.Outcome.{done}
 use Rattle.sequence_number.proofs.Split.{split, split-lt, split-eq}
-use Rattle.fragment_assembler.proofs.AreaLaws.{paste-in, paste-left, paste-right}
+use Rattle.assembly_record.proofs.AreaLaws.{paste-in, paste-left, paste-right}
 use Rattle.fragment_assembler.proofs.CallLaws.{settle-kept, settle-dropped, finish-whole, finish-not, begun, ran-other, begin-fresh, begin-known, Begun, run-long, ran-long, inside, fragment-accepted, accepted-ok, fragment-refused}
-use Rattle.fragment_assembler.proofs.CleanLaws.{at-sweep, swept-either, swept-late, clean-cases, sweep-ok}
-use Rattle.fragment_assembler.proofs.FragmentsLaws.{fragment-of}
-use Rattle.fragment_assembler.proofs.InnerLaws.{same}
-use Rattle.fragment_assembler.proofs.MarksLaws.{marked-none, marked-run, all-ext, all-at}
+use Rattle.assembly_record.proofs.SweepLaws.{at-sweep, swept-either, swept-late, sweep-ok}
+use Rattle.fragment_assembler.proofs.CleanLaws.{clean-cases}
+use Rattle.assembly_record.proofs.FragmentsLaws.{fragment-of}
+use Rattle.assembly_record.proofs.WordsLaws.{same}
+use Rattle.assembly_record.proofs.MarksLaws.{marked-none, marked-run, all-ext, all-at}
 use Rattle.fragment_assembler.proofs.PlacingLaws.{ends-returned, shown-whole, ends-drops, ends-keeps}
 use Rattle.fragment_assembler.proofs.RefusalLaws.{Passed, passed}
-use Rattle.fragment_assembler.proofs.RulesLaws.{rests-size}
-use Rattle.fragment_assembler.proofs.TableLaws.{at-set, lower-but, find-hit, highest-found, find-miss, highest-ge, each-set, find-is, find-none, query-finds, inside-at}
-use Rattle.fragment_assembler.specs.Call.{fragment, settle, Settled, victim, finish, Work, isWhole, accepted, run, begin, known, fresh, runLength, runAt, returned, After}
-use Rattle.fragment_assembler.specs.Clean.{clean, sweep, Cleaning, staleNumbers}
-use Rattle.fragment_assembler.specs.Fragments.{fragments}
-use Rattle.fragment_assembler.specs.Marks.{marked, all, covers}
+use Rattle.assembly_record.proofs.RulesLaws.{rests-size}
+use Rattle.assembly_record.proofs.TableLaws.{at-set, lower-but, find-hit, highest-found, find-miss, highest-ge, each-set, find-is, find-none, query-finds, inside-at}
+use Rattle.fragment_assembler.specs.Call.{fragment, settle, Settled, finish, Work, accepted, run, begin, known, fresh, runLength, runAt, returned, After}
+use Rattle.assembly_record.specs.Table.{victim, lower, find, highestOf, has, count, inAssembly}
+use Rattle.assembly_record.specs.Fragments.{isWhole, fragments}
+use Rattle.fragment_assembler.specs.Clean.{clean, Cleaning}
+use Rattle.assembly_record.specs.Stale.{sweep, staleNumbers}
+use Rattle.assembly_record.specs.Marks.{marked, all, covers}
 use Rattle.fragment_assembler.specs.Refusal.{Call, refusal}
-use Rattle.fragment_assembler.specs.Rules.{Ok}
+use Rattle.assembly_record.specs.Rules.{Ok}
 use Rattle.no_starvation.specs.Starve.{brought, Run, other, after, own, Cut, wants, start, runOf, isBrought, returns, Delivered, moment, Moment, Event, Other, Bounded, arrives, cleans, looks, Chain, Accepted, said}
-use Rattle.fragment_assembler.specs.State.{Place, at, Assembler, free, withPlaces}
-use Rattle.fragment_assembler.specs.Table.{lower, find, highestOf, has, count, inAssembly}
+use Rattle.assembly_record.specs.State.{Place, at, Assembler, free, withPlaces}
 
 abbrev Alone : ℕ → ℕ → List Place → Type 0
 Alone N i ps = (j : ℕ) → at ps j .number ≡ N → j ≡ i

@@ -8,13 +8,14 @@ use lib.ListN.{replicate}
 use lib.IntN.{pos}
 use Rattle.sequence_number.specs.Outcome.{done}
 use Rattle.fragment_assembler.specs.Call.{begin, fragment, dropped, accepted, run, finish, settle, kept}
-use Rattle.fragment_assembler.specs.Clean.{clean, staleNumbers}
-use Rattle.fragment_assembler.specs.Fragments.{fragments}
-use Rattle.fragment_assembler.specs.Marks.{mark, marked}
+use Rattle.fragment_assembler.specs.Clean.{clean}
+use Rattle.assembly_record.specs.Stale.{staleNumbers}
+use Rattle.assembly_record.specs.Fragments.{fragments}
+use Rattle.assembly_record.specs.Marks.{mark, marked}
 use Rattle.fragment_assembler.specs.Refusal.{Call, callOf, rows}
 use Rattle.fragment_assembler.specs.SetUp.{empty}
-use Rattle.fragment_assembler.specs.State.{Place, free, withPlaces}
-use Rattle.fragment_assembler.specs.Table.{lower, has}
+use Rattle.assembly_record.specs.State.{Place, free, withPlaces}
+use Rattle.assembly_record.specs.Table.{lower, has}
 use Rattle.fragment_assembler.specs.View.{shown}
 use Rattle.no_starvation.specs.Starve.{Moment, moment, said, arrives, after, cleans}
 

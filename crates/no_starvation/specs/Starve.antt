@@ -11,16 +11,16 @@ use lib.Dec.{T, eqb}
 use Rattle.sequence_number.specs.Outcome.{Outcome, refused, done}
 use Rattle.fragment_assembler.specs.declared.Answer.{Answer}
 use Rattle.fragment_assembler.specs.declared.Cleaned.{Cleaned}
-use Rattle.fragment_assembler.specs.State.{Assembler}
-use Rattle.fragment_assembler.specs.Table.{inAssembly, lower}
-use Rattle.fragment_assembler.specs.Marks.{covers, all}
-use Rattle.fragment_assembler.specs.Fragments.{fragments, firstByte}
+use Rattle.assembly_record.specs.State.{Assembler}
+use Rattle.assembly_record.specs.Table.{inAssembly, lower}
+use Rattle.assembly_record.specs.Marks.{covers, all}
+use Rattle.assembly_record.specs.Fragments.{fragments, firstByte}
 use Rattle.fragment_assembler.specs.Refusal.{Call, refusal}
 use Rattle.fragment_assembler.specs.Call.{Fate, kept, returned, dropped, fateOf, fragment}
 use Rattle.fragment_assembler.specs.Clean.{clean}
 use Rattle.fragment_assembler.specs.View.{shown}
-use Rattle.fragment_assembler.specs.Words.{stateOf}
-use Rattle.fragment_assembler.specs.Rules.{Ok, Good}
+use Rattle.assembly_record.specs.Words.{stateOf}
+use Rattle.assembly_record.specs.Rules.{Ok, Good}
 use Rattle.fragment_assembler.specs.Promise.{Does, Cleans}
 
 -- ---- the calls of the assembler, of any kind

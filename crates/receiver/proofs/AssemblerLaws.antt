@@ -12,7 +12,7 @@ use Rattle.fragment_assembler.specs.declared.Cleaned.{Cleaned}
 use Rattle.fragment_assembler.specs.declared.Listing.{Listing}
 use Rattle.fragment_assembler.specs.Refusal.{Call}
 use Rattle.fragment_assembler.specs.Call.{Fate, After, fateOf, fragment}
-use Rattle.fragment_assembler.specs.Words.{stateOf}
+use Rattle.assembly_record.specs.Words.{stateOf}
 use Rattle.fragment_assembler.specs.SetUp.{Setting, startedOf}
 use Rattle.fragment_assembler.specs.Clean.{Cleaning, cleanedOf}
 use Rattle.fragment_assembler.specs.Missing.{Missed, listedOf, missingFor}

@@ -8,8 +8,8 @@ use lib.IntN.{ℤ}
 use Rattle.sequence_number.specs.Outcome.{done, refusal, found}
 use Rattle.fragment_assembler.specs.Refusal.{Call}
 use Rattle.fragment_assembler.specs.Call.{Fate, fragment, kept, returned, dropped}
-use Rattle.fragment_assembler.specs.Words.{stateOf}
-use Rattle.fragment_assembler.specs.Rules.{Good}
+use Rattle.assembly_record.specs.Words.{stateOf}
+use Rattle.assembly_record.specs.Rules.{Good}
 use Rattle.fragment_assembler.specs.SetUp.{setUp}
 use Rattle.fragment_assembler.specs.Clean.{clean}
 use Rattle.fragment_assembler.specs.Missing.{missingFor}

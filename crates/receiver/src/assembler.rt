@@ -7,10 +7,10 @@ ghost use mathlib.Core.Path.{_≡_};
 ghost use lib.ListN as lists;
 ghost use Rattle.sequence_number.specs.Number.{numberOf};
 ghost use Rattle.fragment_assembler.specs.Refusal.{callOf};
-ghost use Rattle.fragment_assembler.specs.Table.{inAssembly};
+ghost use Rattle.assembly_record.specs.Table.{inAssembly};
 ghost use Rattle.fragment_assembler.specs.View.{shown};
-ghost use Rattle.fragment_assembler.specs.Words.{stateOf};
-ghost use Rattle.fragment_assembler.specs.Rules.{Good};
+ghost use Rattle.assembly_record.specs.Words.{stateOf};
+ghost use Rattle.assembly_record.specs.Rules.{Good};
 ghost use Rattle.receiver.specs.AssemblerExports.{happened, SetsUpOut, DoesOut, CleansOut, MissesOut};
 
 #[no_mangle]

@@ -13,23 +13,24 @@ use mir.Val.{SFits}
 use borrow.Author.Tests.{ltb-true, ltb-false, eqb-true, eqb-false, not-true, not-false, ne-eqb}
 use Rattle.sequence_number.specs.Number.{top, isNumber, numberOf}
 use Rattle.sequence_number.proofs.Split.{split}
-use Rattle.fragment_assembler.specs.State.{Place, Assembler, at, free}
-use Rattle.fragment_assembler.specs.Table.{find, has, inAssembly}
-use Rattle.fragment_assembler.specs.Fragments.{fragments}
+use Rattle.assembly_record.specs.State.{Place, Assembler, at, free}
+use Rattle.assembly_record.specs.Table.{find, has, inAssembly}
+use Rattle.assembly_record.specs.Fragments.{fragments}
 use Rattle.fragment_assembler.specs.Refusal.{Call, callOf, refusal, rows, sizeFor}
 use Rattle.fragment_assembler.specs.Call.{After, fateOf, accepted, fragment}
 use Rattle.fragment_assembler.specs.SetUp.{startedOf, empty, setUp, setUpRefusal, Setting}
-use Rattle.fragment_assembler.specs.Clean.{Cleaning, cleanedOf, clean, staleNumbers}
+use Rattle.assembly_record.specs.Stale.{staleNumbers}
+use Rattle.fragment_assembler.specs.Clean.{Cleaning, cleanedOf, clean}
 use Rattle.fragment_assembler.specs.Missing.{Missed, listedOf, missing, missingFor}
 use Rattle.fragment_assembler.specs.Promise.{SetsUp, Does, Cleans, Misses}
-use Rattle.fragment_assembler.specs.Words.{stateOf, recordOf}
-use Rattle.fragment_assembler.specs.Rules.{Good}
+use Rattle.assembly_record.specs.Words.{stateOf, recordOf}
+use Rattle.assembly_record.specs.Rules.{Good}
 use Rattle.fragment_assembler.specs.declared.Start.{Start}
 use Rattle.fragment_assembler.specs.declared.Answer.{Answer}
 use Rattle.fragment_assembler.specs.declared.Cleaned.{Cleaned}
 use Rattle.fragment_assembler.specs.declared.Listing.{Listing}
 use Rattle.fragment_assembler.proofs.RefusalLaws.{number-row}
-use Rattle.fragment_assembler.proofs.WordsLaws.{length-table}
+use Rattle.assembly_record.proofs.WordsLaws.{length-table}
 use Rattle.fragment_assembler.proofs.Determined.{same-words}
 use Rattle.refusals.specs.RefusalTable.{row, Verdict, refused, Exactly, Refuses, verdict, numbered, shorter, setUpRows, sampleSize, fragmentRows}
 use Rattle.refusals.proofs.RowLaws.{none-left, asks, asks-less, not-refused, clash, and-true, or-false}

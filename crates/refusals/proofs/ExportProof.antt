@@ -23,9 +23,10 @@ use Rattle.writer_proxy.specs.Missing.{listed}
 use Rattle.fragment_assembler.specs.Call as call
 use Rattle.fragment_assembler.specs.Refusal.{Call, callOf}
 use Rattle.fragment_assembler.specs.SetUp as setup
-use Rattle.fragment_assembler.specs.Clean.{clean, staleNumbers}
+use Rattle.assembly_record.specs.Stale.{staleNumbers}
+use Rattle.fragment_assembler.specs.Clean.{clean}
 use Rattle.fragment_assembler.specs.Missing.{missing, missingFor}
-use Rattle.fragment_assembler.specs.Words as assembler
+use Rattle.assembly_record.specs.Words as assembler
 use Rattle.fragment_assembler.proofs.Determined.{same-words}
 use Rattle.receiver.specs.Exports.{orderOf, given, Gives, Lends}
 use Rattle.receiver.specs.ProxyExports.{oldShown, newShown}

@@ -22,8 +22,7 @@ use Rattle.proxy_core.proofs.CallsLaws.{ok-begun}
 use Rattle.writer_proxy.specs.SetUp.{setUp, Begun}
 use Rattle.writer_proxy.specs.Missing.{missingOf, listed, After}
 use Rattle.writer_proxy.specs.Statements.{NotTaken}
-use Rattle.writer_proxy.proofs.Refusals.{not-taken, received-accepted, irrelevant-accepted, range-accepted, end-top}
-use Rattle.writer_proxy.proofs.Promises.{received-refused-same, irrelevant-refused-same, range-refused-same, missing-refused-same, set-up-refused-same}
+use Rattle.writer_proxy.proofs.Refusals.{not-taken, received-accepted, irrelevant-accepted, range-accepted, end-top, received-refused-same, irrelevant-refused-same, range-refused-same, missing-refused-same, set-up-refused-same}
 use Rattle.refusals.specs.RefusalTable.{Row, Verdict, refused, Exactly, Refuses, verdict, notTaken, rangeRows, missingRows, shorter}
 use Rattle.refusals.proofs.RowLaws.{said-refused, said-accepted, none-left, asks, asks-not, asks-less, clash}
 
@@ -89,7 +88,7 @@ module _ (w : List ℕ) (g : Good w) where
       by-rows w g (received n time (stateOf w)) (notTaken n ∷ [])
       (asks-not replied refl (isNumber n) (row-holds n f) (row-fails n f)
       (λ t. ends (receivedAt (natOf n) time (stateOf w)) (received-accepted (natOf n) time (stateOf w))))
-      (received-refused-same n f (stateOf w) time)
+      (received-refused-same n (stateOf w) time)
 
   pub irrelevant-rows : (n : ℤ) → SFits w64 n → Refuses (replied (irrelevant n (stateOf w))) (notTaken n ∷ []) (recordOf (irrelevant n (stateOf w) .state) ≡ w)
   unfolding irrelevant
@@ -97,7 +96,7 @@ module _ (w : List ℕ) (g : Good w) where
       by-rows w g (irrelevant n (stateOf w)) (notTaken n ∷ [])
       (asks-not replied refl (isNumber n) (row-holds n f) (row-fails n f)
       (λ t. ends (irrelevantAt (natOf n) (stateOf w)) (irrelevant-accepted (natOf n) (stateOf w))))
-      (irrelevant-refused-same n f (stateOf w))
+      (irrelevant-refused-same n (stateOf w))
 
   pub range-rows : (a b : ℤ) → Refuses (replied (irrelevantRange a b (stateOf w))) (rangeRows a b) (recordOf (irrelevantRange a b (stateOf w) .state) ≡ w)
   unfolding irrelevantRange

@@ -24,8 +24,7 @@ use Rattle.proxy_record.specs.State.{State}
 use Rattle.proxy_record.specs.Record.{recordOf, stateOf, Good}
 use Rattle.proxy_core.specs.Calls.{received, irrelevantRange}
 use Rattle.writer_proxy.specs.Missing.{missingOf, listed}
-use Rattle.writer_proxy.proofs.Refusals.{end-top}
-use Rattle.writer_proxy.proofs.Promises.{received-number, range-number, missing-number, received-refused-same, range-refused-same, missing-refused-same}
+use Rattle.writer_proxy.proofs.Refusals.{end-top, received-number, range-number, missing-number, received-refused-same, range-refused-same, missing-refused-same}
 use Rattle.replay_lines.specs.Hex.{digitOf, allHex, valueAt}
 use Rattle.replay_lines.specs.Frame.{frameOf, parsed}
 use Rattle.replay_lines.specs.Decimal.{lineOf}
@@ -226,7 +225,7 @@ module _ (line : List ℕ) (s : State) (list : List ℤ) where
                   (λ frame z.
                   rw (e, received-number n t s)
                   (asks-not numbered refl (isNumber n) (row-holds n (received-fits line n t e)) (row-fails n (received-fits line n t e)) (λ h. none-left)));
-              untouched = λ k z. (received-refused-same n (received-fits line n t e) s t k (by-number (received n t s .report) k z), refl);
+              untouched = λ k z. (received-refused-same n s t k (by-number (received n t s .report) k z), refl);
             };
       }
   shows (Reads (Range a b)) e =

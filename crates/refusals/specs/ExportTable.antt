@@ -23,10 +23,10 @@ use Rattle.proxy_core.specs.Calls.{Reply, received, irrelevant, irrelevantRange
 use Rattle.writer_proxy.specs.SetUp.{setUp}
 use Rattle.writer_proxy.specs.Missing.{listed}
 use Rattle.fragment_assembler.specs.Refusal.{callOf}
-use Rattle.fragment_assembler.specs.Clean.{staleNumbers}
+use Rattle.assembly_record.specs.Stale.{staleNumbers}
 use Rattle.fragment_assembler.specs.Missing.{missing}
-use Rattle.fragment_assembler.specs.Words as assembler
-use Rattle.fragment_assembler.specs.Rules as assembler-rules
+use Rattle.assembly_record.specs.Words as assembler
+use Rattle.assembly_record.specs.Rules as assembler-rules
 use Rattle.receiver.specs.Exports.{orderOf, Gives, Lends}
 use Rattle.receiver.specs.ProxyExports.{Replies, ListsMissing}
 use Rattle.receiver.specs.AssemblerExports.{Happened, SetsUpOut, DoesOut, CleansOut, MissesOut}

@@ -43,17 +43,18 @@ use Rattle.proxy_core.specs.declared.Report.{Report}
 use Rattle.writer_proxy.specs.SetUp.{setUp}
 use Rattle.writer_proxy.specs.Missing.{missingOf, listing, listed}
 use Rattle.writer_proxy.specs.declared.missing.Listing.{Listing}
-use Rattle.fragment_assembler.specs.State.{Assembler, at}
-use Rattle.fragment_assembler.specs.Table.{find, inAssembly}
-use Rattle.fragment_assembler.specs.Fragments.{fragments}
+use Rattle.assembly_record.specs.State.{Assembler, at}
+use Rattle.assembly_record.specs.Table.{find, inAssembly}
+use Rattle.assembly_record.specs.Fragments.{fragments}
 use Rattle.fragment_assembler.specs.Refusal.{callOf}
 use Rattle.fragment_assembler.specs.Call.{fateOf}
 use Rattle.fragment_assembler.specs.SetUp.{startedOf, empty}
-use Rattle.fragment_assembler.specs.Clean.{cleanedOf, staleNumbers}
+use Rattle.assembly_record.specs.Stale.{staleNumbers}
+use Rattle.fragment_assembler.specs.Clean.{cleanedOf}
 use Rattle.fragment_assembler.specs.Missing.{listedOf, missing}
 use Rattle.fragment_assembler.specs.Promise.{SetsUp, Does, Cleans, Misses}
-use Rattle.fragment_assembler.specs.Words as assembler
-use Rattle.fragment_assembler.specs.Rules as assembler-rules
+use Rattle.assembly_record.specs.Words as assembler
+use Rattle.assembly_record.specs.Rules as assembler-rules
 use Rattle.fragment_assembler.specs.declared.Start.{Start}
 use Rattle.fragment_assembler.specs.declared.Answer.{Answer}
 use Rattle.fragment_assembler.specs.declared.Cleaned.{Cleaned}

@@ -5,6 +5,7 @@ pub mod RunLaws
 pub mod WordLaws
 pub mod KindLaws
 pub mod NumberWireLaws
+pub mod WidthLaws
 pub mod BitLaws
 pub mod PositionLaws
 pub mod SetWireLaws
@@ -15,5 +16,4 @@ pub mod FitLaws
 pub mod MakeLaws
 pub mod MemberLaws
 pub mod RoundTrip
-pub mod KnownValues
 pub mod Determined

@@ -6,5 +6,4 @@ pub mod MissingLaws
 pub mod CounterLaws
 pub mod Refusals
 pub mod Promises
-pub mod KnownValues
 pub mod Determined

@@ -3,8 +3,8 @@
 use Prim.Native.Nat.{ℕ, suc, _+_, _-_, _%_, _<_, _≤_}
 use native.Mathlib.Omega.{arith}
 use mathlib.Core.Logic.{_⊎_, inl, inr, ⊎-elim, _↔_}
-use mathlib.Core.Path.{_≡_, refl, sym, ap, _∙_}
-use mathlib.Core.Bool.{Bool, true, false, cond}
+use mathlib.Core.Path.{_≡_, refl, sym, ap}
+use mathlib.Core.Bool.{true, false, cond}
 use mathlib.Core.Option.{Option, none, some}
 use mathlib.Core.List.{List, [], map, List·Memᴰ}
 use lib.ListN.{length}
@@ -13,27 +13,26 @@ use lib.IntN.{ℤ, pos, negsuc}
 use lib.Signed.{ltZ, leZ}
 use mir.Syntax.{w64, w32}
 use mir.Val.{SFits, ofZ, toZ}
-use borrow.Author.Tests.{lt-ltb, le-ltb, eq-eqb, ne-eqb}
-use Rattle.sequence_number.specs.Number.{top, isNumber, natOf}
+use borrow.Author.Tests.{lt-ltb, eq-eqb, ne-eqb}
+use Rattle.sequence_number.specs.Number.{top, natOf}
 use Rattle.sequence_number.specs.Lent.{over}
-use Rattle.sequence_number.specs.Outcome.{refused, done, refusal}
-use Rattle.sequence_number.proofs.Split.{split, split-lt, split-eq}
+use Rattle.sequence_number.specs.Outcome.{done}
+use Rattle.sequence_number.proofs.Split.{split}
 use Rattle.proxy_record.specs.Entries.{Entry, Mark, NotAvailable}
 use Rattle.proxy_record.specs.State.{State, Ok, begun}
-use Rattle.proxy_record.specs.Record.{size, recordOf, stateOf}
+use Rattle.proxy_record.specs.Record.{recordOf, stateOf}
 use Rattle.proxy_record.proofs.RecordLaws.{state-of}
-use Rattle.proxy_core.specs.Calls.{put, moveOn, discard, cap, forced, ended, lost, receivedAt, received, irrelevantAt, irrelevant, putEach, rangeAt, irrelevantRange, upTo}
+use Rattle.proxy_core.specs.Calls.{put, moveOn, discard, cap, forced, ended, lost, received, irrelevant, putEach, irrelevantRange, upTo}
 use Rattle.proxy_core.proofs.CallsLaws.{ok-begun, ok-received, ok-irrelevant, range-at-above, ok-range, base-received, base-irrelevant, base-range}
-use Rattle.writer_proxy.specs.SetUp.{setUp}
 use Rattle.writer_proxy.specs.Queries.{look, given, ignored, statusOf, lastOf}
 use Rattle.writer_proxy.specs.Missing.{missing, lowest, missingOf, listed}
 use Rattle.writer_proxy.specs.Counter.{nextCount, fresh, handedOut}
-use Rattle.writer_proxy.specs.Statements.{Tracked, Ascending, NotTaken}
+use Rattle.writer_proxy.specs.Statements.{Tracked, Ascending}
 use Rattle.writer_proxy.proofs.TrackedLaws.{has-tracked, not-tracked, moved-past, moved-stops}
 use Rattle.writer_proxy.proofs.ShownLaws.{look-put, look-kept, look-each-out, look-each-in}
 use Rattle.writer_proxy.proofs.MissingLaws.{listed-all, missing-has, missing-ascends}
 use Rattle.writer_proxy.proofs.CounterLaws.{next-wraps}
-use Rattle.writer_proxy.proofs.Refusals.{not-taken, refused-unless, refused-if, unless-same, if-same, received-accepted, irrelevant-accepted, range-accepted, end-top, start-low, end-high, crossed, received-number-at, irrelevant-number-at, range-number-at}
+use Rattle.writer_proxy.proofs.Refusals.{end-top, start-low, end-high, crossed}
 
 -- "their own rules hold, shown kept by every call": among them "Never more than 256 numbers are tracked after a call"
 pub set-up-keeps : Ok cap begun
@@ -141,36 +140,6 @@ pub puts-one-by-one : (a k : ℕ) (s : State) → (putEach a 0 s ≡ s) × (putE
 unfolding putEach
 puts-one-by-one a k s = (refl, refl)
 
--- Refusals: "Given exactly when", and then state and output are untouched
-
--- the refusal number of each call's answer, 0 where it is accepted
-pub received-number : (n : ℤ) (t : ℕ) (s : State) → refusal (received n t s .report) ≡ cond (isNumber n) 0 4
-unfolding received
-received-number n t s = split (isNumber n) (λ e. rw e (received-number-at (natOf n) t s)) (λ e. rw e)
-
-pub irrelevant-number : (n : ℤ) (s : State) → refusal (irrelevant n s .report) ≡ cond (isNumber n) 0 4
-unfolding irrelevant
-irrelevant-number n s = split (isNumber n) (λ e. rw e (irrelevant-number-at (natOf n) s)) (λ e. rw e)
-
-pub range-number : (a b : ℤ) (s : State) → refusal (irrelevantRange a b s .report) ≡ cond (ltZ b a) 5 0
-unfolding irrelevantRange
-range-number a b s = split (ltZ b a) (λ e. rw e) (λ e. rw e (range-number-at (natOf a) (natOf b) s))
-
-pub up-to-number : (n : ℤ) (s : State) → refusal (upTo n s .report) ≡ cond (ltZ n (pos 0)) 5 0
-up-to-number n = range-number (pos 0) n
-
-pub missing-number : (start end : ℤ) (s : State) (out : List ℤ)
-    → refusal (listed start end s out .answer) ≡ cond (eqb (natOf end) top) 4 (cond (ltb (length out) (length (missingOf start end s))) 3 0)
-unfolding listed
-missing-number start end s out =
-    split (eqb (natOf end) top)
-    (λ e. rw e)
-    (λ e. rw e (split (ltb (length out) (length (missingOf start end s))) (λ a. rw a) (λ a. rw a)))
-
-pub set-up-number : (w : List ℕ) → refusal (setUp w .report) ≡ cond (ltb (length w) size) 3 0
-unfolding setUp
-set-up-number w = split (ltb (length w) size) (λ e. rw e) (λ e. rw e)
-
 -- "The answer reports a forced step with old and new base"
 pub forced-said : (s : State) → cap < length (s .tracked) → ended s .report ≡ done (forced (s .base) (ended s .state .base))
 unfolding ended
@@ -190,99 +159,6 @@ pub status-said : (n : ℕ) (s : State) → (statusOf (pos n) s ≡ none) ↔ (T
 status-said n s =
     let e = not-given (look n (s .tracked)) in
     (λ h. not-tracked n (s .tracked) .0 (e .0 h), λ h. e .1 (not-tracked n (s .tracked) .1 h))
-
--- 4: "number below 1 or equal to 2^63 - 1 in received, one irrelevant"
-module _ (n : ℤ) (f : SFits w64 n) (s : State) where
-  pub received-refused : (t k : ℕ) → (received n t s .report ≡ refused k) ↔ ((k ≡ 4) × NotTaken n)
-  unfolding received
-  received-refused t k =
-      let e = refused-unless 4 s (receivedAt (natOf n) t s) (received-accepted (natOf n) t s) (isNumber n) k in
-      (λ h. (e .0 h .1, not-taken n f .0 (e .0 h .0)), λ h. e .1 (not-taken n f .1 (h .1), h .0))
-
-  pub irrelevant-refused : (k : ℕ) → (irrelevant n s .report ≡ refused k) ↔ ((k ≡ 4) × NotTaken n)
-  unfolding irrelevant
-  irrelevant-refused k =
-      let e = refused-unless 4 s (irrelevantAt (natOf n) s) (irrelevant-accepted (natOf n) s) (isNumber n) k in
-      (λ h. (e .0 h .1, not-taken n f .0 (e .0 h .0)), λ h. e .1 (not-taken n f .1 (h .1), h .0))
-
-  pub received-refused-same : (t k : ℕ) → received n t s .report ≡ refused k → received n t s .state ≡ s
-  unfolding received
-  received-refused-same t k = unless-same 4 s (receivedAt (natOf n) t s) (received-accepted (natOf n) t s) (isNumber n) k
-
-  pub irrelevant-refused-same : (k : ℕ) → irrelevant n s .report ≡ refused k → irrelevant n s .state ≡ s
-  unfolding irrelevant
-  irrelevant-refused-same k = unless-same 4 s (irrelevantAt (natOf n) s) (irrelevant-accepted (natOf n) s) (isNumber n) k
-
--- 5: "range with a > b"
-pub range-refused-only : (a b : ℤ) (s : State) (k : ℕ) → (irrelevantRange a b s .report ≡ refused k) ↔ ((ltZ b a ≡ true) × (k ≡ 5))
-unfolding irrelevantRange
-range-refused-only a b s k = refused-if 5 s (rangeAt (natOf a) (natOf b) s) (range-accepted (natOf a) (natOf b) s) (ltZ b a) k
-
-pub range-refused-same : (a b : ℤ) (s : State) (k : ℕ) → irrelevantRange a b s .report ≡ refused k → irrelevantRange a b s .state ≡ s
-unfolding irrelevantRange
-range-refused-same a b s k = if-same 5 s (rangeAt (natOf a) (natOf b) s) (range-accepted (natOf a) (natOf b) s) (ltZ b a) k
-
-pub up-to-refused : (n : ℤ) (s : State) (k : ℕ) → (upTo n s .report ≡ refused k) ↔ ((ltZ n (pos 0) ≡ true) × (k ≡ 5))
-up-to-refused n = range-refused-only (pos 0) n
-
-pub up-to-refused-same : (n : ℤ) (s : State) (k : ℕ) → upTo n s .report ≡ refused k → upTo n s .state ≡ s
-up-to-refused-same n = range-refused-same (pos 0) n
-
--- "Missing numbers: 4, then 3"
-not-both : (a b : ℕ) → a < b → b ≤ a → ⊥
-not-both a b h k = omega arith
-
-not-refused : (n k : ℕ) → done n ≡ refused k → ⊥
-not-refused n k e = let z : _≡_ {A = ℕ} 0 1 = cc in omega arith
-
-module _ (start end : ℤ) (s : State) (out : List ℤ) where
-  pub missing-refused : (k : ℕ)
-      → (listed start end s out .answer ≡ refused k)
-      ↔ (((end ≡ pos top) × (k ≡ 4)) ⊎ ((end ≡ pos top → ⊥) × (length out < length (missingOf start end s)) × (k ≡ 3)))
-  unfolding listed
-  missing-refused k =
-      ⊎-elim
-      (λ e.
-      rw (eq-eqb (natOf end) top e)
-      (λ h. inl (end-top end .0 e, cc), ⊎-elim (λ h. ap refused (sym (h .1))) (λ h. absurd (h .0 (end-top end .0 e)))))
-      (λ e.
-      let n : end ≡ pos top → ⊥ = λ h. e (end-top end .1 h) in
-      ⊎-elim
-      (λ a.
-      rw (ne-eqb (natOf end) top e, lt-ltb (length out) (length (missingOf start end s)) a)
-      (λ h. inr (n, a, cc), ⊎-elim (λ h. absurd (n (h .0))) (λ h. ap refused (sym (h .2)))))
-      (λ a.
-      rw (ne-eqb (natOf end) top e, le-ltb (length out) (length (missingOf start end s)) a)
-      (λ h. absurd (not-refused (length (missingOf start end s)) k h), ⊎-elim (λ h. absurd (n (h .0))) (λ h. absurd (not-both (length out) (length (missingOf start end s)) (h .1) a))))
-      (split-lt (length out) (length (missingOf start end s))))
-      (split-eq (natOf end) top)
-
-  pub missing-refused-same : (k : ℕ) → listed start end s out .answer ≡ refused k → listed start end s out .output ≡ out
-  unfolding listed
-  missing-refused-same k =
-      split (eqb (natOf end) top)
-      (λ e. rw e (λ h. refl))
-      (λ e.
-      rw e
-      (split (ltb (length out) (length (missingOf start end s)))
-      (λ a. rw a (λ h. refl))
-      (λ a. rw a (λ h. let z : _≡_ {A = ℕ} 0 1 = cc in absurd (omega arith)))))
-
--- 3: "lent output shorter than the answer", at set-up
-pub set-up-refused : (w : List ℕ) (k : ℕ) → (setUp w .report ≡ refused k) ↔ ((length w < size) × (k ≡ 3))
-unfolding setUp
-set-up-refused w k =
-    ⊎-elim
-    (λ a. rw (lt-ltb (length w) size a) (λ h. (a, cc), λ h. ap refused (sym (h .1))))
-    (λ a. rw (le-ltb (length w) size a) (λ h. let z : _≡_ {A = ℕ} 0 1 = cc in absurd (omega arith), λ h. absurd (omega (arith, h .0))))
-    (split-lt (length w) size)
-
-pub set-up-refused-same : (w : List ℕ) (k : ℕ) → setUp w .report ≡ refused k → setUp w .words ≡ w
-unfolding setUp
-set-up-refused-same w k =
-    split (ltb (length w) size)
-    (λ e. rw e (λ h. refl))
-    (λ e. rw e (λ h. let z : _≡_ {A = ℕ} 0 1 = cc in absurd (omega arith)))
 
 -- The acknack count
 

@@ -4,8 +4,9 @@ use native.Mathlib.Omega.{arith}
 use mathlib.Core.Logic.{inl, inr, ⊎-elim, _↔_}
 use mathlib.Core.Path.{_≡_, refl, sym, ap}
 use mathlib.Core.Bool.{Bool, true, false, cond}
+use mathlib.Core.List.{List}
 use lib.ListN.{length}
-use lib.Dec.{ltb, leb}
+use lib.Dec.{ltb, leb, eqb}
 use lib.IntN.{ℤ, pos, negsuc}
 use lib.Signed.{ltZ, leZ}
 use mir.Syntax.{w64}
@@ -15,8 +16,11 @@ use Rattle.sequence_number.specs.Number.{top, isNumber, natOf}
 use Rattle.sequence_number.specs.Outcome.{refused, refusal}
 use Rattle.sequence_number.proofs.Split.{split, split-lt}
 use Rattle.proxy_record.specs.State.{State}
-use Rattle.proxy_core.specs.Calls.{Reply, noted, put, settled, cap, ended, refuses, got, lost, receivedAt, irrelevantAt, skipped, putEach, rangeAt}
+use Rattle.proxy_record.specs.Record.{size}
+use Rattle.proxy_core.specs.Calls.{Reply, noted, put, settled, cap, ended, refuses, got, lost, receivedAt, received, irrelevantAt, irrelevant, skipped, putEach, rangeAt, irrelevantRange}
 use Rattle.proxy_core.proofs.CallsLaws.{ended-accepted}
+use Rattle.writer_proxy.specs.SetUp.{setUp}
+use Rattle.writer_proxy.specs.Missing.{missingOf, listed}
 use Rattle.writer_proxy.specs.Statements.{NotTaken}
 
 -- row 4 over an i64
@@ -32,22 +36,13 @@ not-taken (pos n) f =
     (λ a. let z : n < 1 = omega arith in rw (le-ltb 0 n a, lt-ltb n 1 z) (λ h. inl refl, λ h. refl))
     (split-lt 0 n)
 
--- a call that is refused by one test, and goes on to the cap otherwise
+-- a call that is refused by one test, and goes on to the cap otherwise: refused, it changes nothing
 module _ (j : ℕ) (s : State) (x : Reply) (h : (k : ℕ) → x .report ≡ refused k → ⊥) where
-  pub refused-unless : (b : Bool) (k : ℕ) → (cond b x (refuses j s) .report ≡ refused k) ↔ ((b ≡ false) × (k ≡ j))
-  refused-unless true k = (λ e. absurd (h k e), λ e. let z : _≡_ {A = ℕ} 0 1 = (let t = e .0 in cc) in absurd (omega arith))
-  refused-unless false k = (λ e. (refl, cc), λ e. ap refused (sym (e .1)))
-
-  pub refused-if : (b : Bool) (k : ℕ) → (cond b (refuses j s) x .report ≡ refused k) ↔ ((b ≡ true) × (k ≡ j))
-  refused-if false k = (λ e. absurd (h k e), λ e. let z : _≡_ {A = ℕ} 0 1 = (let t = e .0 in cc) in absurd (omega arith))
-  refused-if true k = (λ e. (refl, cc), λ e. ap refused (sym (e .1)))
-
-  -- and then nothing changes
-  pub unless-same : (b : Bool) (k : ℕ) → cond b x (refuses j s) .report ≡ refused k → cond b x (refuses j s) .state ≡ s
+  unless-same : (b : Bool) (k : ℕ) → cond b x (refuses j s) .report ≡ refused k → cond b x (refuses j s) .state ≡ s
   unless-same true k e = absurd (h k e)
   unless-same false k e = refl
 
-  pub if-same : (b : Bool) (k : ℕ) → cond b (refuses j s) x .report ≡ refused k → cond b (refuses j s) x .state ≡ s
+  if-same : (b : Bool) (k : ℕ) → cond b (refuses j s) x .report ≡ refused k → cond b (refuses j s) x .state ≡ s
   if-same false k e = absurd (h k e)
   if-same true k e = refl
 
@@ -87,14 +82,57 @@ ended-number : (s : State) → refusal (ended s .report) ≡ 0
 unfolding ended
 ended-number s = split (ltb cap (length (s .tracked))) (λ e. rw e) (λ e. rw e)
 
-pub received-number-at : (n t : ℕ) (s : State) → refusal (receivedAt n t s .report) ≡ 0
+received-number-at : (n t : ℕ) (s : State) → refusal (receivedAt n t s .report) ≡ 0
 unfolding receivedAt
 received-number-at n t s = ended-number (settled n (put (got n t) (noted n t s)))
 
-pub irrelevant-number-at : (n : ℕ) (s : State) → refusal (irrelevantAt n s .report) ≡ 0
-unfolding irrelevantAt
-irrelevant-number-at n s = ended-number (settled n (cond (ltb n (s .base)) s (put (lost n) s)))
-
-pub range-number-at : (a b : ℕ) (s : State) → refusal (rangeAt a b s .report) ≡ 0
+range-number-at : (a b : ℕ) (s : State) → refusal (rangeAt a b s .report) ≡ 0
 unfolding rangeAt
 range-number-at a b s = ended-number (cond (leb a (s .base)) (skipped a b s) (putEach a (b - a) s))
+
+pub received-number : (n : ℤ) (t : ℕ) (s : State) → refusal (received n t s .report) ≡ cond (isNumber n) 0 4
+unfolding received
+received-number n t s = split (isNumber n) (λ e. rw e (received-number-at (natOf n) t s)) (λ e. rw e)
+
+pub range-number : (a b : ℤ) (s : State) → refusal (irrelevantRange a b s .report) ≡ cond (ltZ b a) 5 0
+unfolding irrelevantRange
+range-number a b s = split (ltZ b a) (λ e. rw e) (λ e. rw e (range-number-at (natOf a) (natOf b) s))
+
+pub missing-number : (start end : ℤ) (s : State) (out : List ℤ)
+    → refusal (listed start end s out .answer) ≡ cond (eqb (natOf end) top) 4 (cond (ltb (length out) (length (missingOf start end s))) 3 0)
+unfolding listed
+missing-number start end s out =
+    split (eqb (natOf end) top)
+    (λ e. rw e)
+    (λ e. rw e (split (ltb (length out) (length (missingOf start end s))) (λ a. rw a) (λ a. rw a)))
+
+-- a refused call changes nothing
+pub received-refused-same : (n : ℤ) (s : State) (t k : ℕ) → received n t s .report ≡ refused k → received n t s .state ≡ s
+unfolding received
+received-refused-same n s t k = unless-same 4 s (receivedAt (natOf n) t s) (received-accepted (natOf n) t s) (isNumber n) k
+
+pub irrelevant-refused-same : (n : ℤ) (s : State) (k : ℕ) → irrelevant n s .report ≡ refused k → irrelevant n s .state ≡ s
+unfolding irrelevant
+irrelevant-refused-same n s k = unless-same 4 s (irrelevantAt (natOf n) s) (irrelevant-accepted (natOf n) s) (isNumber n) k
+
+pub range-refused-same : (a b : ℤ) (s : State) (k : ℕ) → irrelevantRange a b s .report ≡ refused k → irrelevantRange a b s .state ≡ s
+unfolding irrelevantRange
+range-refused-same a b s k = if-same 5 s (rangeAt (natOf a) (natOf b) s) (range-accepted (natOf a) (natOf b) s) (ltZ b a) k
+
+pub missing-refused-same : (start end : ℤ) (s : State) (out : List ℤ) (k : ℕ) → listed start end s out .answer ≡ refused k → listed start end s out .output ≡ out
+unfolding listed
+missing-refused-same start end s out k =
+    split (eqb (natOf end) top)
+    (λ e. rw e (λ h. refl))
+    (λ e.
+    rw e
+    (split (ltb (length out) (length (missingOf start end s)))
+    (λ a. rw a (λ h. refl))
+    (λ a. rw a (λ h. let z : _≡_ {A = ℕ} 0 1 = cc in absurd (omega arith)))))
+
+pub set-up-refused-same : (w : List ℕ) (k : ℕ) → setUp w .report ≡ refused k → setUp w .words ≡ w
+unfolding setUp
+set-up-refused-same w k =
+    split (ltb (length w) size)
+    (λ e. rw e (λ h. refl))
+    (λ e. rw e (λ h. let z : _≡_ {A = ℕ} 0 1 = cc in absurd (omega arith)))

@@ -5,11 +5,11 @@ use mathlib.Core.Path.{_≡_, sym, ap, _∙_}
 use lib.ListN.{drop, drop-of-length-le}
 use borrow.Author.Tests.{lt-ltb, le-ltb}
 use borrow.Author.Needs.{needs}
-use Rattle.fragment_assembler.proofs.TableLaws.{howMany-part, howMany-yes, howMany-no}
-use Rattle.fragment_assembler.proofs.WordsLaws.{length-places, number-at}
-use Rattle.fragment_assembler.specs.State.{at}
-use Rattle.fragment_assembler.specs.Table.{count, isTaken}
-use Rattle.fragment_assembler.specs.Words.{placesOf}
+use Rattle.assembly_record.proofs.TableLaws.{howMany-part, howMany-yes, howMany-no}
+use Rattle.assembly_record.proofs.WordsLaws.{length-places, number-at}
+use Rattle.assembly_record.specs.State.{at}
+use Rattle.assembly_record.specs.Table.{count, isTaken}
+use Rattle.assembly_record.specs.Words.{placesOf}
 use Rattle.fragment_assembler.proofs.in_assembly.Statement.{statement}
 use Rattle.fragment_assembler.proofs.in_assembly.Tie as tie
 

@@ -1,11 +1,11 @@
 -- `fragment_assembler::is_partially_received` meets its contract: the number is sought in the table. Assumes nothing.
 use mathlib.Core.Path.{sym, ap, _∙_}
 use borrow.Author.Needs.{needs}
-use Rattle.fragment_assembler.proofs.RulesLaws.{number-taken}
-use Rattle.fragment_assembler.proofs.TableLaws.{query-no, query-yes}
-use Rattle.fragment_assembler.proofs.WordsLaws.{length-places}
-use Rattle.fragment_assembler.specs.Table.{inAssembly}
-use Rattle.fragment_assembler.specs.Words.{placesOf}
+use Rattle.fragment_assembler.proofs.RefusalLaws.{number-taken}
+use Rattle.assembly_record.proofs.TableLaws.{query-no, query-yes}
+use Rattle.assembly_record.proofs.WordsLaws.{length-places}
+use Rattle.assembly_record.specs.Table.{inAssembly}
+use Rattle.assembly_record.specs.Words.{placesOf}
 use Rattle.fragment_assembler.proofs.is_partially_received.Statement.{statement}
 use Rattle.fragment_assembler.proofs.is_partially_received.Tie as tie
 

@@ -2,8 +2,9 @@
 use native.Mathlib.Omega.{arith}
 use borrow.Author.Needs.{needs}
 use Rattle.fragment_assembler.proofs.MissingLaws.{misses-as, missing-zero, missing-not, missing-short, missing-done}
-use Rattle.fragment_assembler.proofs.RulesLaws.{number-taken, good-size, good-few}
-use Rattle.fragment_assembler.proofs.WordsLaws.{marks-long}
+use Rattle.fragment_assembler.proofs.RefusalLaws.{number-taken}
+use Rattle.assembly_record.proofs.RulesLaws.{good-size, good-few}
+use Rattle.assembly_record.proofs.WordsLaws.{marks-long}
 use Rattle.fragment_assembler.proofs.missing_frags_for.Statement.{statement}
 use Rattle.fragment_assembler.proofs.missing_frags_for.Tie as tie
 

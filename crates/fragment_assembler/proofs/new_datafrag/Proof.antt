@@ -1,7 +1,7 @@
 -- `fragment_assembler::new_datafrag` meets its contract: the number that `number_of` gives is the one that the promise names. Assumes nothing.
 use borrow.Author.Needs.{needs}
 use Rattle.fragment_assembler.proofs.InnerLaws.{does-as}
-use Rattle.fragment_assembler.proofs.RulesLaws.{number-taken}
+use Rattle.fragment_assembler.proofs.RefusalLaws.{number-taken}
 use Rattle.fragment_assembler.proofs.new_datafrag.Statement.{statement}
 use Rattle.fragment_assembler.proofs.new_datafrag.Tie as tie
 

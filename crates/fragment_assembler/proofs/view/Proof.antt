@@ -2,7 +2,7 @@
 use native.Mathlib.Omega.{arith}
 use borrow.Author.Needs.{needs}
 use Rattle.fragment_assembler.proofs.ViewLaws.{shown-past, shown-inside, shown-over, shown-part}
-use Rattle.fragment_assembler.specs.Words.{stateOf}
+use Rattle.assembly_record.specs.Words.{stateOf}
 use Rattle.fragment_assembler.proofs.view.Statement.{statement}
 use Rattle.fragment_assembler.proofs.view.Tie as tie
 

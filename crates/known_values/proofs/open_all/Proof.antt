@@ -1,6 +1,6 @@
 -- `known_values::open_all` meets its contract: each call keeps the rules that the next one asks for.
 -- Assumes nothing.
-use Rattle.fragment_assembler.specs.Rules.{Good}
+use Rattle.assembly_record.specs.Rules.{Good}
 use lib.ListN.{length}
 use mathlib.Core.Path.{_≡_, refl, _∙_}
 use Prim.Native.Nat.{_-_}

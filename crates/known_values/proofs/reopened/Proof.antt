@@ -1,7 +1,7 @@
 -- `known_values::reopened` meets its contract: set-up leaves a record by the rules, and each call keeps them.
 -- Assumes nothing.
 use Rattle.fragment_assembler.specs.SetUp.{startedOf}
-use Rattle.fragment_assembler.specs.Rules.{Good}
+use Rattle.assembly_record.specs.Rules.{Good}
 use lib.Seq.{take-all}
 use mathlib.Core.Path.{subst, ap, _∙_}
 use native.Mathlib.Omega.{arith}

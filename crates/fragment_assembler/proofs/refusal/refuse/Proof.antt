@@ -6,13 +6,14 @@ use mathlib.Core.List.{[]}
 use lib.ListN.{length, getD}
 use borrow.Author.Needs.{needs}
 use Rattle.fragment_assembler.proofs.RefusalLaws.{call-known, call-13, call-4, call-6, call-7, call-8, call-9, call-opens}
-use Rattle.fragment_assembler.proofs.RulesLaws.{good-size}
-use Rattle.fragment_assembler.proofs.WordsLaws.{size-at, length-places}
-use Rattle.fragment_assembler.specs.Fragments.{fragments}
+use Rattle.assembly_record.proofs.FragmentsLaws.{fragments-le, fragments-above}
+use Rattle.assembly_record.proofs.RulesLaws.{good-size}
+use Rattle.assembly_record.proofs.WordsLaws.{size-at, length-places}
+use Rattle.assembly_record.specs.Fragments.{fragments}
 use Rattle.fragment_assembler.specs.Refusal.{Call, callOf, runRefusal, refusal}
-use Rattle.fragment_assembler.specs.State.{at}
-use Rattle.fragment_assembler.specs.Table.{find}
-use Rattle.fragment_assembler.specs.Words.{stateOf, placesOf}
+use Rattle.assembly_record.specs.State.{at}
+use Rattle.assembly_record.specs.Table.{find}
+use Rattle.assembly_record.specs.Words.{stateOf, placesOf}
 use Rattle.fragment_assembler.proofs.refusal.refuse.Statement.{statement}
 use Rattle.fragment_assembler.proofs.refusal.refuse.Tie as tie
 
@@ -93,30 +94,30 @@ returns-6 c =
     call-8 (stateOf (s .args .t .now)) (s .args .long) (callAt s) (e .before .before .if1 .left) (e .before .if2 .left) (s .pre .1 .1) (e .if3 .left) (none (c .before .before)) (c .before .if5 .left)
     (c .if6 .taken)
 
-count-of-requires : tie.Need-count-of-requires
-count-of-requires c κs =
-    let s = c .before .before .before .before .before .before .before .before .before in
-    (s .pre .0 .ok .some, (s .pre .0 .ok .unit, omega (arith, s .fits .data-size .fits)))
+mul-if7 : tie.Need-mul-if7
+mul-if7 c =
+    let s = startOf (c .before .before .before) in
+    record { fits = omega (arith, s .pre .0 .ok .unit) }
 
 returns-7 : tie.Need-returns-7
 returns-7 c =
-    let e = c .before .before .before .before .before in
+    let e = c .before .before .before .before in
     let s = startOf e in
-    call-9 (stateOf (s .args .t .now)) (s .args .long) (callAt s) (e .before .before .if1 .left) (e .before .if2 .left) (s .pre .1 .1) (e .if3 .left) (none (c .before .before .before .before)) (c .before .before .before .if5 .left)
-    (c .before .before .if6 .left) (omega (arith, c .before .count-of .ensures, c .if7 .taken))
+    call-9 (stateOf (s .args .t .now)) (s .args .long) (callAt s) (e .before .before .if1 .left) (e .before .if2 .left) (s .pre .1 .1) (e .if3 .left) (none (c .before .before .before)) (c .before .before .if5 .left)
+    (c .before .if6 .left) (fragments-above (s .args .data-size) (getD (s .args .t .now) 0 0) 256 (s .pre .0 .ok .some) (c .if7 .taken))
 
 refuse-run-requires-2 : tie.Need-refuse-run-requires-2
 refuse-run-requires-2 c κs =
-    let s = c .before .before .before .before .before .before .before .before .before .before .before in
+    let s = c .before .before .before .before .before .before .before .before .before .before in
     (s .pre .0 .ok .some, (s .pre .0 .ok .unit, omega (arith, s .fits .data-size .fits)))
 
 returns-8 : tie.Need-returns-8
 returns-8 c =
-    let e = c .before .before .before .before .before .before in
+    let e = c .before .before .before .before .before in
     let s = startOf e in
     c .refuse-run2 .ensures
-    ∙ call-opens (stateOf (s .args .t .now)) (s .args .long) (callAt s) (e .before .before .if1 .left) (e .before .if2 .left) (s .pre .1 .1) (e .if3 .left) (none (c .before .before .before .before .before)) (c .before .before .before .before .if5 .left)
-    (c .before .before .before .if6 .left) (omega (arith, c .before .before .count-of .ensures, c .before .if7 .left))
+    ∙ call-opens (stateOf (s .args .t .now)) (s .args .long) (callAt s) (e .before .before .if1 .left) (e .before .if2 .left) (s .pre .1 .1) (e .if3 .left) (none (c .before .before .before .before)) (c .before .before .before .if5 .left)
+    (c .before .before .if6 .left) (fragments-le (s .args .data-size) (getD (s .args .t .now) 0 0) 256 (s .pre .0 .ok .some) (omega (arith, c .before .if7 .left)))
 
 pub refuse-spec : {M : Type 1} → statement M
 refuse-spec =
@@ -137,7 +138,7 @@ refuse-spec =
     returns-4
     returns-5
     returns-6
-    count-of-requires
+    mul-if7
     returns-7
     refuse-run-requires-2
     returns-8)

@@ -3,7 +3,7 @@ use native.Mathlib.Omega.{arith}
 use lib.ListN.{length, getD}
 use borrow.Author.Needs.{needs}
 use Rattle.fragment_assembler.proofs.InnerLaws.{run-off, small-mul, run-room, run-end, run-brings, run-closes, worked}
-use Rattle.fragment_assembler.proofs.WordsLaws.{size-at}
+use Rattle.assembly_record.proofs.WordsLaws.{size-at}
 use Rattle.fragment_assembler.specs.Refusal.{Call, callOf}
 use Rattle.fragment_assembler.proofs.settle.insert_frags.Statement.{statement}
 use Rattle.fragment_assembler.proofs.settle.insert_frags.Tie as tie

@@ -7,8 +7,8 @@ use borrow.Author.Needs.{needs}
 use Rattle.fragment_assembler.proofs.InnerLaws.{does-refused, runs-known, does-known, clear-fits, free-in, runs-fresh, does-fresh}
 use Rattle.fragment_assembler.proofs.RefusalLaws.{refusal-head}
 use Rattle.fragment_assembler.specs.Refusal.{Call, callOf, refusal}
-use Rattle.fragment_assembler.specs.Table.{find}
-use Rattle.fragment_assembler.specs.Words.{stateOf, placesOf}
+use Rattle.assembly_record.specs.Table.{find}
+use Rattle.assembly_record.specs.Words.{stateOf, placesOf}
 use Rattle.fragment_assembler.proofs.settle.take_frags.Statement.{statement}
 use Rattle.fragment_assembler.proofs.settle.take_frags.Tie as tie
 

@@ -1,7 +1,7 @@
 -- `receiver::assembler::drucenal_assembler_is_partially_received` meets its contract: the answer from below, handed on.
 -- Assumes nothing.
-use Rattle.fragment_assembler.specs.Words.{stateOf}
-use Rattle.fragment_assembler.specs.Table.{inAssembly}
+use Rattle.assembly_record.specs.Words.{stateOf}
+use Rattle.assembly_record.specs.Table.{inAssembly}
 use Rattle.sequence_number.specs.Number.{numberOf}
 use mir.Facts.{toZ-ofZ}
 use lib.IntN.{ℤ}

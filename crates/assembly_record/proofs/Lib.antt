@@ -1,0 +1,12 @@
+pub mod TableLaws
+pub mod MarksLaws
+pub mod GapsLaws
+pub mod FillLaws
+pub mod AreaLaws
+pub mod WordsLaws
+pub mod RowLaws
+pub mod FragmentsLaws
+pub mod FirstGapLaws
+pub mod RulesLaws
+pub mod StaleLaws
+pub mod SweepLaws

@@ -1,0 +1,107 @@
+-- Laws of `specs/Marks.antt`. Assumes nothing.
+use Prim.Native.Nat.{ℕ, zero, suc, _+_, _*_, _/_, _%_, _^_, _≤_, _<_}
+use native.Mathlib.Omega.{arith}
+use native.Mathlib.Nat.{not-suc-le-zero, le-of-suc-le-suc, eq-or-lt-of-le, mod-lt, zero-div}
+use native.Mathlib.Numerals.{add-one}
+use mathlib.Core.Path.{_≡_, refl, sym, ap, subst, _∙_}
+use mathlib.Core.Bool.{Bool, true, false, _&&_, _||_, or-false}
+use mathlib.Core.Logic.{⊎-elim}
+use mathlib.Core.List.{List}
+use lib.ListN.{length, getD, set, replicate, length-set, getD-replicate, List·getD-eq-default}
+use lib.Dec.{ltb, leb, eqb}
+use lib.Bits.{bitOr}
+use borrow.Author.Tests.{ltb-true, ltb-false, leb-true, leb-false, eqb-true, eqb-false, lt-ltb, le-ltb, ne-eqb}
+use Rattle.sequence_number.proofs.Split.{split}
+use Rattle.sequence_number.proofs.WidthLaws.{one-within, or-sets, set-has}
+use Rattle.assembly_record.specs.Marks.{mark, markRun, marked, covers, all}
+
+pub length-run : (m : List ℕ) (k n : ℕ) → length (markRun m k n) ≡ length m
+unfolding mark
+length-run m k zero = refl
+length-run m k (suc n) = simp length-set (length-run m k n)
+
+or-assoc : (a b c : Bool) → a || b || c ≡ a || (b || c)
+or-assoc true b c = refl
+or-assoc false b c = refl
+
+-- a mark as the code sets it
+pub mark-or : (m : List ℕ) (j : ℕ)
+    → set m (j / 64) (bitOr (getD m (j / 64) 0) ((1 * 2 ^ (j % 64)) % 18446744073709551616)) ≡ mark m j
+unfolding mark
+mark-or m j =
+    let e : (1 * 2 ^ (j % 64)) % 18446744073709551616 ≡ 2 ^ (j % 64) = one-within (j % 64) 64 (mod-lt j (omega arith)) in
+    ap (λ (x : ℕ). set m (j / 64) (bitOr (getD m (j / 64) 0) x)) e ∙ ap (set m (j / 64)) (or-sets (getD m (j / 64) 0) (j % 64))
+
+-- a mark more of a run
+pub run-more : (m₀ m : List ℕ) (k i : ℕ) → m ≡ markRun m₀ k i
+    → set m ((k + i) / 64) (bitOr (getD m ((k + i) / 64) 0) ((1 * 2 ^ ((k + i) % 64)) % 18446744073709551616)) ≡ markRun m₀ k (i + 1)
+run-more m₀ m k i e = mark-or m (k + i) ∙ ap (λ (l : List ℕ). mark l (k + i)) e ∙ ap (markRun m₀ k) (sym (add-one i))
+
+-- after a mark is set the marks are those before, and it
+pub marked-mark : (m : List ℕ) (i j : ℕ) → length m ≡ 4 → i < 256 → marked (mark m i) j ≡ marked m j || eqb i j
+unfolding mark marked
+marked-mark m i j l h = set-has 64 (λ (n : ℕ). n % 64) (λ x y e f. omega arith) m i j (omega arith)
+
+pub marked-none : (j : ℕ) → marked (replicate 4 0) j ≡ false
+unfolding marked
+marked-none j =
+    let z : _≡_ {A = ℕ} (getD (replicate 4 0) (j / 64) 0) 0 =
+    split (ltb (j / 64) 4) (λ t. getD-replicate 4 (j / 64) 0 0 (ltb-true _ _ t)) (λ t. List·getD-eq-default {A = ℕ} (replicate 4 0) 0 (ltb-false (j / 64) 4 t)) in
+    rw (z, zero-div (2 ^ (j % 64)))
+
+covers-suc : (k n j : ℕ) → covers k (suc n) j ≡ covers k n j || eqb (k + n) j
+covers-suc k n j =
+    split (leb k j)
+    (λ t.
+    let a : k ≤ j = leb-true k j t in
+    split (ltb j (k + n))
+    (λ u. let b = ltb-true j (k + n) u in rw (t, u, lt-ltb j (k + suc n) (omega arith)))
+    (λ u.
+    let b : k + n ≤ j = ltb-false j (k + n) u in
+    split (eqb (k + n) j)
+    (λ x. let y = eqb-true (k + n) j x in rw (t, u, x, lt-ltb j (k + suc n) (omega arith)))
+    (λ x. let y = eqb-false (k + n) j x in rw (t, u, x, le-ltb j (k + suc n) (omega arith)))))
+    (λ t. let a : j < k = leb-false k j t in rw (t, ne-eqb (k + n) j (λ z. omega arith)))
+
+covers-zero : (k j : ℕ) → covers k 0 j ≡ false
+covers-zero k j =
+    split (leb k j) (λ t. let a = leb-true k j t in rw (t, le-ltb j (k + 0) (omega arith))) (λ t. rw t)
+
+pub covers-past : (k n j : ℕ) → k + n ≤ j → covers k n j ≡ false
+covers-past k n j h = split (leb k j) (λ t. rw (t, le-ltb j (k + n) h)) (λ t. rw t)
+
+pub marked-run : (m : List ℕ) (k n j : ℕ) → length m ≡ 4 → k + n ≤ 256 → marked (markRun m k n) j ≡ marked m j || covers k n j
+marked-run m k zero j l h = sym (or-false (marked m j)) ∙ ap (λ (b : Bool). marked m j || b) (sym (covers-zero k j))
+marked-run m k (suc n) j l h =
+    marked-mark (markRun m k n) (k + n) j (length-run m k n ∙ l) (omega arith)
+    ∙ ap (λ (b : Bool). b || eqb (k + n) j) (marked-run m k n j l (omega arith))
+    ∙ or-assoc (marked m j) (covers k n j) (eqb (k + n) j)
+    ∙ ap (λ (b : Bool). marked m j || b) (sym (covers-suc k n j))
+
+pub all-ext : (f g : ℕ → Bool) (n : ℕ) → ((j : ℕ) → j < n → f j ≡ g j) → all f n ≡ all g n
+all-ext f g zero h = refl
+all-ext f g (suc n) h =
+    let a = all-ext f g n (λ j l. h j (omega arith)) in
+    let b = h n (omega arith) in cc
+
+and-left : (a b : Bool) → a && b ≡ true → a ≡ true
+and-left true b e = refl
+and-left false b e = e
+
+and-right : (a b : Bool) → a && b ≡ true → b ≡ true
+and-right true b e = e
+and-right false true e = refl
+and-right false false e = e
+
+pub all-at : (f : ℕ → Bool) (n j : ℕ) → all f n ≡ true → j < n → f j ≡ true
+all-at f zero j e l = absurd (not-suc-le-zero l)
+all-at f (suc n) j e l =
+    ⊎-elim (λ q. subst (λ (k : ℕ). f k ≡ true) (sym q) (and-right (all f n) (f n) e))
+    (λ k. all-at f n j (and-left (all f n) (f n) e) k) (eq-or-lt-of-le (le-of-suc-le-suc l))
+
+pub all-lacks : (f : ℕ → Bool) (n j : ℕ) → j < n → f j ≡ false → all f n ≡ false
+all-lacks f n j l e = split (all f n) (λ t. t ∙ sym (all-at f n j t l) ∙ e) (λ t. t)
+
+pub all-holds : (f : ℕ → Bool) (n : ℕ) → ((j : ℕ) → j < n → f j ≡ true) → all f n ≡ true
+all-holds f zero h = refl
+all-holds f (suc n) h = rw (all-holds f n (λ j l. h j (omega arith)), h n (omega arith))

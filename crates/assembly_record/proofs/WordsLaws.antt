@@ -1,0 +1,228 @@
+-- Laws of `specs/Words.antt`: a row read, a row lent and back, and that words are the record of their state. Assumes nothing.
+-- ---- rows of equal length
+use Prim.Native.Nat.{ℕ, zero, suc, _+_, _*_, _-_, _≤_, _<_}
+use native.Mathlib.Omega.{arith}
+use native.Mathlib.Nat.{not-suc-le-zero, le-of-suc-le-suc}
+use mathlib.Core.Path.{_≡_, refl, sym, ap, _∙_}
+use mathlib.Core.Bool.{Bool, true, false}
+use mathlib.Core.List.{List, [], _∷_, _++_, append-assoc}
+use lib.ListN.{length, getD, set, take, drop, length-append, length-take, length-drop, take-append-drop}
+use lib.Seq.{length-take-le, getD-take, getD-drop, drop-drop, take-append-le, take-at, drop-at, take-add, take-take}
+use lib.Dec.{eqb}
+use borrow.Author.Tests.{eqb-true, eqb-false}
+use Rattle.sequence_number.proofs.Split.{split}
+use Rattle.assembly_record.specs.Rows.{Became}
+use Rattle.assembly_record.specs.State.{at, Place, Assembler, withPlaces}
+use Rattle.assembly_record.specs.Words.{rowsOf, placeOf, placesOf, rowOf, tableOf, bit, recordOf, stateOf}
+
+pub length-rows : (n : ℕ) (l : List ℕ) → length (rowsOf n l) ≡ n
+length-rows zero l = refl
+length-rows (suc n) l = ap suc (length-rows n (drop 7 l))
+
+-- row i, read
+pub row-at : (n i : ℕ) (l : List ℕ) → i < n → at (rowsOf n l) i ≡ placeOf (take 7 (drop (7 * i) l))
+row-at zero i l h = absurd (not-suc-le-zero h)
+row-at (suc n) zero l h = refl
+row-at (suc n) (suc i) l h =
+    row-at n i (drop 7 l) (le-of-suc-le-suc h)
+    ∙ ap (λ (k : List ℕ). placeOf (take 7 k)) (drop-drop (7 * i) 7 l ∙ ap (λ (k : ℕ). drop k l) step)
+  where
+    step : 7 + 7 * i ≡ 7 * suc i
+    step = omega arith
+
+-- row i, lent and back as ys
+pub row-back : (n i : ℕ) (l ys : List ℕ) → i < n → 7 * n ≤ length l → length ys ≡ 7
+    → rowsOf n (take (7 * i) l ++ (ys ++ drop 7 (drop (7 * i) l))) ≡ set (rowsOf n l) i (placeOf ys)
+row-back zero i l ys h long e = absurd (not-suc-le-zero h)
+row-back (suc n) zero l ys h long e =
+    ap (λ (k : List ℕ). placeOf k ∷ rowsOf n (drop 7 (ys ++ drop 7 l))) (take-at ys (drop 7 l) 7 e)
+    ∙ ap (λ (k : List ℕ). placeOf ys ∷ rowsOf n k) (drop-at ys (drop 7 l) 7 e)
+row-back (suc n) (suc i) l ys h long e =
+    ap (rowsOf (suc n)) whole
+    ∙ ap (λ (k : List ℕ). placeOf k ∷ rowsOf n (drop 7 (take 7 l ++ rest))) (take-at (take 7 l) rest 7 seven)
+    ∙ ap (λ (k : List ℕ). placeOf (take 7 l) ∷ rowsOf n k) (drop-at (take 7 l) rest 7 seven)
+    ∙ ap (λ (k : List Place). placeOf (take 7 l) ∷ k) (row-back n i (drop 7 l) ys (le-of-suc-le-suc h) (omega (arith, length-drop 7 l)) e)
+  where
+    rest : List ℕ
+    rest = take (7 * i) (drop 7 l) ++ (ys ++ drop 7 (drop (7 * i) (drop 7 l)))
+
+    seven : length (take 7 l) ≡ 7
+    seven = length-take-le 7 l (omega arith)
+
+    step : 7 * suc i ≡ 7 + 7 * i
+    step = omega arith
+
+    whole : take (7 * suc i) l ++ (ys ++ drop 7 (drop (7 * suc i) l)) ≡ take 7 l ++ rest
+    whole = rw (step, take-add 7 (7 * i) l, ← drop-drop (7 * i) 7 l) (simp append-assoc)
+
+-- ---- the same of the whole record
+
+pub became-then : (w w′ w″ : List ℕ) (ps ps′ : List Place) → Became w ps w′ → Became w′ ps′ w″ → Became w ps′ w″
+became-then w w′ w″ ps ps′ a b = record { head = b .head ∙ a .head; long = b .long; places = b .places }
+
+pub became-as : (w w′ : List ℕ) (ps ps′ : List Place) → ps ≡ ps′ → Became w ps w′ → Became w ps′ w′
+became-as w w′ ps ps′ e a = record { head = a .head; long = a .long; places = a .places ∙ e }
+
+pub head-same : (w w′ : List ℕ) (i : ℕ) → i < 3 → take 3 w′ ≡ take 3 w → getD w′ i 0 ≡ getD w i 0
+head-same w w′ i h e = sym (getD-take 3 w′ i 0 h) ∙ ap (λ (l : List ℕ). getD l i 0) e ∙ getD-take 3 w i 0 h
+
+pub state-became : (w : List ℕ) (ps : List Place) (w′ : List ℕ) → Became w ps w′ → stateOf w′ ≡ withPlaces (stateOf w) ps
+state-became w ps w′ b =
+    let u = head-same w w′ 0 (omega arith) (b .head) in
+    let p = head-same w w′ 1 (omega arith) (b .head) in
+    let m = head-same w w′ 2 (omega arith) (b .head) in
+    let q = b .places in
+    cc
+
+pub same : (w : List ℕ) → length w ≡ 906 → Became w (placesOf w) w
+same w e = record { head = refl; long = e; places = refl }
+
+pub length-places : (w : List ℕ) → length (placesOf w) ≡ 129
+unfolding placesOf
+length-places w = length-rows 129 (drop 3 w)
+
+module _ (w : List ℕ) (i : ℕ) (h : i < 129) where
+  pub place-at : at (placesOf w) i ≡ placeOf (take 7 (drop (3 + 7 * i) w))
+  unfolding placesOf
+  place-at = row-at 129 i (drop 3 w) h ∙ ap (λ (l : List ℕ). placeOf (take 7 l)) (drop-drop (7 * i) 3 w)
+
+  word-at : (j : ℕ) → j < 7 → getD (take 7 (drop (3 + 7 * i) w)) j 0 ≡ getD w (3 + 7 * i + j) 0
+  word-at j l = getD-take 7 (drop (3 + 7 * i) w) j 0 l ∙ getD-drop (3 + 7 * i) w j 0
+
+  pub number-at : getD w (3 + 7 * i) 0 ≡ at (placesOf w) i .number
+  number-at =
+      let e : 3 + 7 * i ≡ 3 + 7 * i + 0 = omega arith in
+      ap (λ (k : ℕ). getD w k 0) e ∙ sym (word-at 0 (omega arith)) ∙ ap (λ (p : Place). p .number) (sym place-at)
+
+  pub size-at : getD w (3 + 7 * i + 1) 0 ≡ at (placesOf w) i .size
+  size-at = sym (word-at 1 (omega arith)) ∙ ap (λ (p : Place). p .size) (sym place-at)
+
+  pub time-at : getD w (3 + 7 * i + 2) 0 ≡ at (placesOf w) i .time
+  time-at = sym (word-at 2 (omega arith)) ∙ ap (λ (p : Place). p .time) (sym place-at)
+
+  pub marks-at : take ((3 + 7 * i + 3 + 4) - (3 + 7 * i + 3)) (drop (3 + 7 * i + 3) w) ≡ at (placesOf w) i .marks
+  marks-at =
+      let n : (3 + 7 * i + 3 + 4) - (3 + 7 * i + 3) ≡ 4 = omega arith in
+      ap (λ (k : ℕ). take k (drop (3 + 7 * i + 3) w)) n
+      ∙ ap (take 4) (sym (drop-drop 3 (3 + 7 * i) w))
+      ∙ sym (drop-take (drop (3 + 7 * i) w))
+      ∙ ap (λ (p : Place). p .marks) (sym place-at)
+    where
+      drop-take : (l : List ℕ) → drop 3 (take 7 l) ≡ take 4 (drop 3 l)
+      drop-take [] = refl
+      drop-take (a ∷ []) = refl
+      drop-take (a ∷ (b ∷ [])) = refl
+      drop-take (a ∷ (b ∷ (c ∷ l))) = refl
+
+  pub marks-long : length w ≡ 906 → length (take ((3 + 7 * i + 3 + 4) - (3 + 7 * i + 3)) (drop (3 + 7 * i + 3) w)) ≡ 4
+  marks-long e =
+      let n : (3 + 7 * i + 3 + 4) - (3 + 7 * i + 3) ≡ 4 = omega arith in
+      omega (arith, n, length-take ((3 + 7 * i + 3 + 4) - (3 + 7 * i + 3)) (drop (3 + 7 * i + 3) w), length-drop (3 + 7 * i + 3) w)
+
+  -- row i of the record, lent and back as ys
+  pub lent-back : (ys : List ℕ) → length w ≡ 906 → length ys ≡ 7
+      → Became w (set (placesOf w) i (placeOf ys)) (take (3 + 7 * i) w ++ (ys ++ drop ((3 + 7 * i + 7) - (3 + 7 * i)) (drop (3 + 7 * i) w)))
+  unfolding placesOf
+  lent-back ys e l =
+      record {
+        head = take-append-le 3 (take (3 + 7 * i) w) _ (omega (arith, front)) ∙ take-take 3 (3 + 7 * i) w (omega arith);
+        long = simp (length-append, length-drop) (omega (arith, front));
+        places =
+            ap (λ (k : List ℕ). rowsOf 129 k) shape
+            ∙ row-back 129 i (drop 3 w) ys h (omega (arith, length-drop 3 w)) l;
+      }
+    where
+      front : length (take (3 + 7 * i) w) ≡ 3 + 7 * i
+      front = length-take-le (3 + 7 * i) w (omega arith)
+
+      seven : (3 + 7 * i + 7) - (3 + 7 * i) ≡ 7
+      seven = omega arith
+
+      three : length (take 3 w) ≡ 3
+      three = length-take-le 3 w (omega arith)
+
+      shape : drop 3 (take (3 + 7 * i) w ++ (ys ++ drop ((3 + 7 * i + 7) - (3 + 7 * i)) (drop (3 + 7 * i) w)))
+          ≡ take (7 * i) (drop 3 w) ++ (ys ++ drop 7 (drop (7 * i) (drop 3 w)))
+      shape =
+          rw (seven, take-add 3 (7 * i) w, ← drop-drop (7 * i) 3 w, append-assoc (take 3 w) (take (7 * i) (drop 3 w)))
+          (drop-at (take 3 w) _ 3 three)
+
+  part-seven : (3 + 7 * i + 7) - (3 + 7 * i) ≡ 7
+  part-seven = omega arith
+
+  -- the row that is lent stands for the place
+  pub row-is : placeOf (take ((3 + 7 * i + 7) - (3 + 7 * i)) (drop (3 + 7 * i) w)) ≡ at (placesOf w) i
+  row-is = ap (λ (k : ℕ). placeOf (take k (drop (3 + 7 * i) w))) part-seven ∙ sym place-at
+
+  -- the same law, as the leaves say it: the row keeps its length and stands for q
+  pub lent-as : (ys : List ℕ) (q : Place) → length w ≡ 906 → length ys ≡ length (take ((3 + 7 * i + 7) - (3 + 7 * i)) (drop (3 + 7 * i) w)) → placeOf ys ≡ q
+      → Became w (set (placesOf w) i q) (take (3 + 7 * i) w ++ (ys ++ drop ((3 + 7 * i + 7) - (3 + 7 * i)) (drop (3 + 7 * i) w)))
+  lent-as ys q e l p =
+      became-as w _ _ _ (ap (λ (x : Place). set (placesOf w) i x) p)
+      (lent-back ys e (omega (arith, l, part-seven, length-take ((3 + 7 * i + 7) - (3 + 7 * i)) (drop (3 + 7 * i) w), length-drop (3 + 7 * i) w)))
+
+  pub row-long : length w ≡ 906 → length (take ((3 + 7 * i + 7) - (3 + 7 * i)) (drop (3 + 7 * i) w)) ≡ 7
+  row-long e = omega (arith, part-seven, length-take ((3 + 7 * i + 7) - (3 + 7 * i)) (drop (3 + 7 * i) w), length-drop (3 + 7 * i) w)
+
+-- ---- a record is the words of the state that it stands for
+
+row-round : (l : List ℕ) → 3 ≤ length l → rowOf (placeOf l) ≡ l
+row-round [] h = absurd (omega arith)
+row-round (a ∷ []) h = absurd (omega arith)
+row-round (a ∷ (b ∷ [])) h = absurd (omega arith)
+row-round (a ∷ (b ∷ (c ∷ l))) h = refl
+
+table-round : (n : ℕ) (l : List ℕ) → length l ≡ 7 * n → tableOf (rowsOf n l) ≡ l
+table-round zero [] h = refl
+table-round zero (a ∷ l) h = absurd (omega arith)
+table-round (suc n) l h =
+    ap (λ (x : List ℕ). x ++ tableOf (rowsOf n (drop 7 l))) (row-round (take 7 l) (omega (arith, length-take-le 7 l (omega arith))))
+    ∙ ap (λ (x : List ℕ). take 7 l ++ x) (table-round n (drop 7 l) (omega (arith, length-drop 7 l)))
+    ∙ take-append-drop 7 l
+
+bit-round : (m : ℕ) → m ≤ 1 → bit (eqb m 1) ≡ m
+bit-round m h =
+    split (eqb m 1) (λ t. rw t (sym (eqb-true m 1 t))) (λ t. rw t (let n = eqb-false m 1 t in omega arith))
+
+pub round : (w : List ℕ) → length w ≡ 906 → getD w 2 0 ≤ 1 → recordOf (stateOf w) ≡ w
+unfolding recordOf placesOf
+round [] h m = absurd (omega arith)
+round (a ∷ []) h m = absurd (omega arith)
+round (a ∷ (b ∷ [])) h m = absurd (omega arith)
+round (a ∷ (b ∷ (c ∷ l))) h m =
+    ap (λ (x : ℕ). a ∷ (b ∷ (x ∷ tableOf (rowsOf 129 l)))) (bit-round c m)
+    ∙ ap (λ (x : List ℕ). a ∷ (b ∷ (c ∷ x))) (table-round 129 l (omega arith))
+
+pub bit-le : (b : Bool) → bit b ≤ 1
+bit-le true = omega arith
+bit-le false = omega arith
+
+pub mode-word : (a : Assembler) → getD (recordOf a) 2 0 ≡ bit (a .reliable)
+unfolding recordOf
+mode-word a = refl
+
+-- ---- a state is what its record stands for
+
+rows-back : (n : ℕ) (ps : List Place) → length ps ≡ n → ((i : ℕ) → length (at ps i .marks) ≡ 4) → rowsOf n (tableOf ps) ≡ ps
+rows-back zero [] e h = refl
+rows-back zero (p ∷ ps) e h = absurd (omega arith)
+rows-back (suc n) [] e h = absurd (omega arith)
+rows-back (suc n) (p ∷ ps) e h =
+    let s : length (rowOf p) ≡ 7 = omega (arith, h 0) in
+    ap (λ (l : List ℕ). placeOf l ∷ rowsOf n (drop 7 (rowOf p ++ tableOf ps))) (take-at (rowOf p) (tableOf ps) 7 s)
+    ∙ ap (λ (l : List ℕ). p ∷ rowsOf n l) (drop-at (rowOf p) (tableOf ps) 7 s)
+    ∙ ap (λ (l : List Place). p ∷ l) (rows-back n ps (omega arith) (λ i. h (suc i)))
+
+pub length-table : (ps : List Place) → ((i : ℕ) → length (at ps i .marks) ≡ 4) → length (tableOf ps) ≡ 7 * length ps
+length-table [] h = refl
+length-table (p ∷ ps) h = omega (arith, length-append (rowOf p) (tableOf ps), h 0, length-table ps (λ i. h (suc i)))
+
+bit-back : (b : Bool) → eqb (bit b) 1 ≡ b
+bit-back true = refl
+bit-back false = refl
+
+pub back : (a : Assembler) → length (a .places) ≡ 129 → ((i : ℕ) → length (at (a .places) i .marks) ≡ 4) → stateOf (recordOf a) ≡ a
+unfolding recordOf placesOf
+back a e h =
+    ap (λ (b : Bool). record { unit = a .unit; room = a .room; reliable = b; places = rowsOf 129 (tableOf (a .places)) }) (bit-back (a .reliable))
+    ∙ ap (withPlaces a) (rows-back 129 (a .places) e h)
