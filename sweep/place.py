@@ -2,6 +2,7 @@
 import os
 import re
 import shutil
+import signal
 import subprocess
 import tempfile
 
@@ -41,12 +42,17 @@ class Copy:
                 h.write(text)
 
     def run(self, *words):
+        """What `rt` says, or None where it takes too long; nothing of it is left running."""
         env = dict(os.environ, RT_JOBS=os.environ.get("RT_JOBS", "1"), RT_CUT="0")
-        try:
-            p = subprocess.run(["nice", "-n", "19", "rt", *words], cwd=self.at, env=env, stdout=subprocess.PIPE, stderr=subprocess.STDOUT, timeout=LIMIT)
-        except subprocess.TimeoutExpired:
-            return None
-        return p.stdout.decode("utf-8", "replace")
+        words = ["nice", "-n", "19", "rt", *words]
+        with subprocess.Popen(words, cwd=self.at, env=env, stdout=subprocess.PIPE, stderr=subprocess.STDOUT, process_group=0) as p:
+            try:
+                return p.communicate(timeout=LIMIT)[0].decode("utf-8", "replace")
+            except subprocess.TimeoutExpired:
+                return None
+            finally:
+                if p.returncode is None:
+                    os.killpg(p.pid, signal.SIGTERM)
 
     def proof_of(self, f):
         """The folder of a function's proof, or None where the search proves it."""
