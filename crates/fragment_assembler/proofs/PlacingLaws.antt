@@ -3,24 +3,24 @@
 use Prim.Native.Nat.{ℕ, _+_, _*_, _-_, _≤_, _<_}
 use native.Mathlib.Omega.{arith}
 use native.Mathlib.Nat.{mul-le-mul-right}
-use mathlib.Core.Path.{_≡_, refl, sym, ap, subst, _∙_}
+use mathlib.Core.Path.{_≡_, refl, ap, subst, _∙_}
 use mathlib.Core.Bool.{true, false, cond, _||_}
 use mathlib.Core.Logic.{_⊎_, inl, inr, ⊎-elim}
 use mathlib.Core.List.{List}
 use lib.ListN.{length, getD, set, take, drop, replicate, length-replicate, getD-replicate}
 use lib.Seq.{paste}
 use borrow.Author.Tests.{le-leb, eq-eqb, ne-eqb}
-use Rattle.sequence_number.specs.Outcome.{refused, done}
+use Rattle.sequence_number.specs.Outcome.{done}
 use Rattle.sequence_number.proofs.Split.{split, split-eq}
 use Rattle.assembly_record.proofs.AreaLaws.{paste-left, paste-right, paste-in}
-use Rattle.fragment_assembler.proofs.CallLaws.{Begun, begun, fragment-accepted, begin-known, begin-fresh, ran-long, run-long, inside, run-within, finish-whole, finish-not, fragment-refused}
+use Rattle.fragment_assembler.proofs.CallLaws.{Begun, begun, fragment-accepted, begin-known, begin-fresh, ran-long, run-long, inside, run-within, finish-whole, finish-not}
 use Rattle.assembly_record.proofs.MarksLaws.{marked-run}
-use Rattle.fragment_assembler.proofs.RefusalLaws.{Passed, passed, first-exactly}
+use Rattle.fragment_assembler.proofs.RefusalLaws.{Passed, passed}
 use Rattle.fragment_assembler.specs.Call.{fragment, run, Work, begin, accepted, After, fresh, runLength, runAt, finish, Settled, returned, dropped, settle, kept}
 use Rattle.assembly_record.specs.Fragments.{isWhole, firstByte, endByte}
 use Rattle.assembly_record.specs.Table.{victim, count, has, find}
 use Rattle.assembly_record.specs.Marks.{marked, covers}
-use Rattle.fragment_assembler.specs.Refusal.{Call, refusal, GivenBy, rows}
+use Rattle.fragment_assembler.specs.Refusal.{Call, refusal}
 use Rattle.assembly_record.specs.Rules.{Ok}
 use Rattle.assembly_record.specs.State.{Assembler, at, free, Place}
 use Rattle.fragment_assembler.specs.View.{shown}
@@ -186,35 +186,3 @@ module _ (a : Assembler) (area : List ℕ) (c : Call) (g : Ok a) (e : refusal a 
       let l : i * a .room + d ≤ length (fragment a area c .area) =
       (rw (k .2, k .3) (omega (arith, inside (a .room) (w .seat) (length area) (w .place .size) (work .within) (work .sample .most) (pass .long), placed-long))) in
       rw (le-leb (i * a .room + d) (length (fragment a area c .area)) l)
-
--- ---- refusals
-
--- an accepted call says no refusal
-accepted-not : (a : Assembler) (area : List ℕ) (c : Call) (n : ℕ) → refusal a (length area) c ≡ 0 → fragment a area c .answer ≡ refused n → ⊥
-unfolding accepted
-accepted-not a area c n z e =
-    let k : done (finish a (run a c (begin a area c)) .answer) ≡ refused n = ap (λ (o : After). o .answer) (sym (fragment-accepted a area c z)) ∙ e in
-    let y : _≡_ {A = ℕ} 0 1 = cc in
-    omega arith
-
-pub refused-exactly : (a : Assembler) (area : List ℕ) (c : Call) (n : ℕ) → 0 < n
-    → (fragment a area c .answer ≡ refused n → GivenBy n (rows a (length area) c)) × (GivenBy n (rows a (length area) c) → fragment a area c .answer ≡ refused n)
-refused-exactly a area c n h =
-    let x = first-exactly (rows a (length area) c) n h in (
-      λ e. x .0 (refusal-of e),
-      λ r.
-          let q : refusal a (length area) c ≡ n = x .1 r in
-          ap (λ (o : After). o .answer) (fragment-refused a area c (λ z. omega (arith, q, z))) ∙ ap refused q,
-    )
-  where
-    refusal-of : fragment a area c .answer ≡ refused n → refusal a (length area) c ≡ n
-    refusal-of e =
-        ⊎-elim (λ z. absurd (accepted-not a area c n z e))
-        (λ z. let q = ap (λ (o : After). o .answer) (fragment-refused a area c z) in cc) (split-eq (refusal a (length area) c) 0)
-
-pub refused-leaves : (a : Assembler) (area : List ℕ) (c : Call) (n : ℕ) → 0 < n → fragment a area c .answer ≡ refused n
-    → (fragment a area c .state ≡ a) × (fragment a area c .area ≡ area)
-refused-leaves a area c n h e =
-    let q : refusal a (length area) c ≡ n = first-exactly (rows a (length area) c) n h .1 (refused-exactly a area c n h .0 e) in
-    let f = fragment-refused a area c (λ z. omega (arith, q, z)) in
-    (ap (λ (o : After). o .state) f, ap (λ (o : After). o .area) f)

@@ -5,36 +5,32 @@ use native.Mathlib.Omega.{arith}
 use mathlib.Core.Path.{_≡_, _∙_}
 use mathlib.Core.Bool.{Bool, true, false, not, cond, _||_}
 use mathlib.Core.Logic.{_⊎_}
-use mathlib.Core.List.{List, [], map, List·Memᴰ}
+use mathlib.Core.List.{List, [], List·Memᴰ}
 use lib.ListN.{length, getD, set, take, drop}
-use lib.IntN.{ℤ, pos}
-use lib.Dec.{leb, eqb}
-use Rattle.sequence_number.specs.Number.{top, numberOf, isNumber}
-use Rattle.sequence_number.specs.Lent.{over}
-use Rattle.sequence_number.specs.Outcome.{refused, done}
+use lib.IntN.{ℤ}
+use Rattle.sequence_number.specs.Outcome.{done}
 use Rattle.fragment_assembler.proofs.CallLaws.{fragment-ok}
-use Rattle.fragment_assembler.proofs.CleanLaws.{clean-cases, clean-ok}
+use Rattle.fragment_assembler.proofs.CleanLaws.{clean-ok}
 use Rattle.assembly_record.proofs.SweepLaws.{at-sweep, swept-early, swept-late}
 use Rattle.assembly_record.proofs.FragmentsLaws.{fragments-cover, fragment-starts, fragments-some, fragments-on-paper}
-use Rattle.fragment_assembler.proofs.MissingLaws.{missing-cases, missing-members, missing-rises, missing-absent}
-use Rattle.fragment_assembler.proofs.PlacingLaws.{placed-seat, placed-long, placed-run, placed-fragment, placed-zero, placed-others, placed-others-opening, ran-as, ends-returned, ends-drops, ends-keeps, ends-dropped-only, ends-returned-only, refused-exactly, refused-leaves, shown-whole}
-use Rattle.fragment_assembler.proofs.RefusalLaws.{number-row}
+use Rattle.fragment_assembler.proofs.MissingLaws.{missing-members, missing-rises, missing-absent}
+use Rattle.fragment_assembler.proofs.PlacingLaws.{placed-seat, placed-long, placed-run, placed-fragment, placed-zero, placed-others, placed-others-opening, ran-as, ends-returned, ends-drops, ends-keeps, ends-dropped-only, ends-returned-only, shown-whole}
 use Rattle.assembly_record.proofs.RulesLaws.{ok-back, ok-good}
-use Rattle.fragment_assembler.proofs.SetUpLaws.{set-up-exactly, empty-ok, set-up-record}
+use Rattle.fragment_assembler.proofs.SetUpLaws.{empty-ok, set-up-record}
 use Rattle.assembly_record.proofs.StaleLaws.{listed-rising, listed-stale, stale-listed}
 use Rattle.assembly_record.proofs.TableLaws.{highest-found, highest-ge, lowest-found, lowest-le, query-found, query-finds}
 use Rattle.fragment_assembler.specs.Call.{fragment, Work, begin, run, runLength, runAt, kept, returned, dropped}
 use Rattle.assembly_record.specs.Fragments.{isWhole, fragments, fragmentsOnPaper, firstByte, endByte}
 use Rattle.assembly_record.specs.Table.{victim, has, find, count, inAssembly}
-use Rattle.fragment_assembler.specs.Clean.{clean, cleaning}
+use Rattle.fragment_assembler.specs.Clean.{clean}
 use Rattle.assembly_record.specs.Stale.{staleNumbers, sweep}
 use Rattle.assembly_record.specs.Marks.{marked, covers}
-use Rattle.fragment_assembler.specs.Missing.{missing, missingFor, missed}
+use Rattle.fragment_assembler.specs.Missing.{missing}
 use Rattle.fragment_assembler.specs.Promise.{SetsUp}
-use Rattle.fragment_assembler.specs.Refusal.{Call, refusal, GivenBy, rows}
+use Rattle.fragment_assembler.specs.Refusal.{Call, refusal}
 use Rattle.assembly_record.specs.Rules.{Ok, Good, Distinct}
-use Rattle.fragment_assembler.specs.SetUp.{setUp, setUpRows, setting, empty, startedOf}
-use Rattle.assembly_record.specs.State.{Assembler, free, at, Place, withPlaces}
+use Rattle.fragment_assembler.specs.SetUp.{empty, startedOf}
+use Rattle.assembly_record.specs.State.{Assembler, free, at, Place}
 use Rattle.fragment_assembler.specs.View.{shown}
 use Rattle.assembly_record.specs.Words.{stateOf, recordOf}
 use Rattle.fragment_assembler.specs.declared.Start.{Start}
@@ -139,40 +135,6 @@ highest-goes ps h l = (omega (arith, highest-found ps (omega arith)), highest-ge
 pub lowest-goes : (ps : List Place) → count ps ≡ 129 → length ps ≡ 129
     → (find (victim false ps) ps < 129) × ((j : ℕ) → j < 129 → victim false ps ≤ at ps j .number)
 lowest-goes ps h l = (omega (arith, lowest-found ps (omega arith)), λ j k. lowest-le ps j (omega arith))
-
--- ==== Refusals
-
--- "Given exactly when": a fragment call is refused with n exactly when row n holds and none earlier in the order does
-pub fragment-refused-exactly : (a : Assembler) (area : List ℕ) (c : Call) (n : ℕ) → 0 < n
-    → (fragment a area c .answer ≡ refused n → GivenBy n (rows a (length area) c)) × (GivenBy n (rows a (length area) c) → fragment a area c .answer ≡ refused n)
-fragment-refused-exactly a area c n h = refused-exactly a area c n h
-
--- "leaves state, area and output untouched"
-pub fragment-refused-leaves : (a : Assembler) (area : List ℕ) (c : Call) (n : ℕ) → 0 < n → fragment a area c .answer ≡ refused n
-    → (fragment a area c .state ≡ a) × (fragment a area c .area ≡ area)
-fragment-refused-leaves a area c n h e = refused-leaves a area c n h e
-
--- row 4 as a caller sees it: "number below 1 or equal to 2^63 - 1"
-pub row-4 : (n : ℤ) → eqb (numberOf n) 0 || leb top (numberOf n) ≡ not (isNumber n)
-row-4 n = number-row n
-
--- set-up: 14 or 3 exactly when their rows hold in this order, and the words stay
-pub set-up-refused-exactly : (f : ℕ) (reliable : Bool) (p : ℕ) (w : List ℕ) (n : ℕ) → 0 < n
-    → (setUp f reliable p w .answer ≡ refused n → GivenBy n (setUpRows f p (length w)))
-    × (GivenBy n (setUpRows f p (length w)) → setUp f reliable p w ≡ setting (refused n) w)
-set-up-refused-exactly f reliable p w n h = set-up-exactly f reliable p w n h
-
--- "3: lent output shorter than the answer", and nothing is dropped
-pub clean-refused-exactly : (a : Assembler) (t : ℕ) (out : List ℤ)
-    → (length out < length (staleNumbers t (a .places)) → clean a t out ≡ cleaning (refused 3) a out)
-    × (length (staleNumbers t (a .places)) ≤ length out
-    → clean a t out ≡ cleaning (done (length (staleNumbers t (a .places)))) (withPlaces a (sweep t (a .places))) (over (map pos (staleNumbers t (a .places))) out))
-clean-refused-exactly a t out = clean-cases a t out
-
-pub missing-refused-exactly : (a : Assembler) (n : ℕ) (out : List ℕ)
-    → (length out < length (missing a n) → missingFor a n out ≡ missed (refused 3) out)
-    × (length (missing a n) ≤ length out → missingFor a n out ≡ missed (done (length (missing a n))) (over (missing a n) out))
-missing-refused-exactly a n out = missing-cases a n out
 
 -- ==== The record's rules
 

@@ -4,7 +4,7 @@ use Prim.Native.Nat.{ℕ, _+_, _*_, _-_, _≤_, _<_}
 use native.Mathlib.Omega.{arith}
 use mathlib.Core.Path.{_≡_, refl, subst}
 use mathlib.Core.Bool.{Bool, true, false, not, _&&_, _||_}
-use mathlib.Core.Logic.{inl, inr, ⊎-elim}
+use mathlib.Core.Logic.{⊎-elim}
 use mathlib.Core.List.{List, [], _∷_}
 use lib.ListN.{length}
 use lib.IntN.{ℤ, pos, negsuc}
@@ -19,7 +19,7 @@ use Rattle.sequence_number.proofs.Split.{split, split-lt}
 use Rattle.fragment_assembler.specs.Call.{opened}
 use Rattle.assembly_record.specs.Fragments.{fragments}
 use Rattle.fragment_assembler.specs.Inner.{RunOk}
-use Rattle.fragment_assembler.specs.Refusal.{runRefusal, rows, row, Call, refusal, opens, first, runRows, Row, callOf, sizeFor, GivenBy}
+use Rattle.fragment_assembler.specs.Refusal.{runRefusal, rows, row, Call, refusal, opens, first, runRows, Row, callOf, sizeFor}
 use Rattle.assembly_record.specs.State.{Assembler, at}
 use Rattle.assembly_record.specs.Table.{count, find, has}
 
@@ -173,16 +173,6 @@ passed a n c e =
 
     opened : has (a .places) (c .number) ≡ false → (b : Bool) → opens a c && b ≡ false → b ≡ false
     opened t b e = rw t at e
-
--- ---- exactly when
-
-pub first-exactly : (rs : List Row) (n : ℕ) → 0 < n → (first rs ≡ n → GivenBy n rs) × (GivenBy n rs → first rs ≡ n)
-first-exactly [] n h = (λ e. absurd (omega arith), λ x. absurd x)
-first-exactly (r ∷ rs) n h =
-    let ih = first-exactly rs n h in
-    split (r .holds)
-    (λ t. (λ e. inl (t, rw t at e), λ x. rw t (⊎-elim (λ y. y .1) (λ y. let z : _≡_ {A = ℕ} 0 1 = cc in absurd (omega arith)) x)))
-    (λ t. (λ e. inr (t, ih .0 (rw t at e)), λ x. rw t (⊎-elim (λ y. let z : _≡_ {A = ℕ} 0 1 = cc in absurd (omega arith)) (λ y. ih .1 (y .1)) x)))
 
 -- row 4 on the number as a call takes it
 pub number-row : (n : ℤ) → eqb (numberOf n) 0 || leb top (numberOf n) ≡ not (isNumber n)

@@ -7,17 +7,13 @@ use mathlib.Core.Logic.{inl}
 use mathlib.Core.List.{List, _∷_, _++_}
 use lib.ListN.{length, set, take, drop, replicate, length-replicate}
 use lib.Seq.{take-all, take-at}
-use lib.Dec.{eqb}
 use borrow.Author.Tests.{lt-ltb, le-ltb, eq-eqb, ne-eqb}
 use Rattle.sequence_number.specs.Lent.{over}
 use Rattle.sequence_number.specs.Outcome.{refused, done}
-use Rattle.sequence_number.proofs.Split.{split}
-use Rattle.fragment_assembler.proofs.RefusalLaws.{first-exactly}
 use Rattle.assembly_record.proofs.RulesLaws.{ok-good}
 use Rattle.fragment_assembler.specs.Promise.{SetsUp}
-use Rattle.fragment_assembler.specs.Refusal.{GivenBy}
 use Rattle.assembly_record.specs.Rules.{Ok, Good}
-use Rattle.fragment_assembler.specs.SetUp.{empty, setUp, setUpRefusal, setting, setUpRows, startedOf}
+use Rattle.fragment_assembler.specs.SetUp.{empty, setUp, setUpRefusal, setting, startedOf}
 use Rattle.assembly_record.specs.State.{at, free, Place}
 use Rattle.assembly_record.specs.Table.{count}
 use Rattle.assembly_record.specs.Words.{tableOf, bit, recordOf}
@@ -109,23 +105,6 @@ module _ (w : List ℕ) (f : ℕ) (reliable : Bool) (p : ℕ) where
                   subst Good (sym (ap (take 906) whole ∙ take-at (recordOf (empty f reliable p)) (drop (length (recordOf (empty f reliable p))) w) 906 long))
                   (ok-good (empty f reliable p) k);
             }
-
--- ---- exactly when
-
-pub set-up-exactly : (f : ℕ) (reliable : Bool) (p : ℕ) (w : List ℕ) (n : ℕ) → 0 < n
-    → (setUp f reliable p w .answer ≡ refused n → GivenBy n (setUpRows f p (length w)))
-    × (GivenBy n (setUpRows f p (length w)) → setUp f reliable p w ≡ setting (refused n) w)
-unfolding setUp setUpRefusal
-set-up-exactly f reliable p w n h =
-    let x = first-exactly (setUpRows f p (length w)) n h in (
-      λ e.
-          split (eqb (setUpRefusal f p (length w)) 0)
-          (λ t. let u = rw t at e in let z : _≡_ {A = ℕ} 0 1 = cc in absurd (omega arith))
-          (λ t. let u = rw t at e in x .0 (cc)),
-      λ r.
-          let q : setUpRefusal f p (length w) ≡ n = x .1 r in
-          rw (ne-eqb (setUpRefusal f p (length w)) 0 (λ z. omega (arith, q, z))) (ap (λ (k : ℕ). setting (refused k) w) q),
-    )
 
 -- set up in exactly 906 words: the words are the record
 pub set-up-record : (w : List ℕ) (f : ℕ) (reliable : Bool) (p : ℕ) (r : Start) (w′ : List ℕ) → SetsUp w f reliable p r w′ → length w′ ≡ 906

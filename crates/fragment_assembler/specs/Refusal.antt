@@ -1,8 +1,6 @@
 -- A fragment call, and the rows of the refusal table that concern it, in the document's order. Assumes nothing.
 use Prim.Native.Nat.{ℕ, _+_, _*_, _-_}
-use mathlib.Core.Path.{_≡_}
-use mathlib.Core.Bool.{Bool, true, false, cond, not, _&&_, _||_}
-use mathlib.Core.Logic.{_⊎_}
+use mathlib.Core.Bool.{Bool, cond, not, _&&_, _||_}
 use mathlib.Core.List.{List, [], _∷_}
 use lib.Dec.{ltb, leb, eqb}
 use Rattle.sequence_number.specs.Number.{top}
@@ -67,8 +65,3 @@ rows a n c =
 -- the refusal's number, 0 where the call is accepted
 abbrev pub refusal : Assembler → ℕ → Call → ℕ
 refusal a n c = first (rows a n c)
-
--- "Given exactly when" the row holds and none earlier does
-abbrev pub GivenBy : ℕ → List Row → Type 0
-GivenBy n [] = ⊥
-GivenBy n (r ∷ rs) = ((r .holds ≡ true) × (r .number ≡ n)) ⊎ ((r .holds ≡ false) × GivenBy n rs)

@@ -18,7 +18,7 @@ use Rattle.sequence_number.proofs.Split.{split, split-lt, split-eq}
 use Rattle.sequence_number.proofs.NumberLaws.{number-is}
 use Rattle.proxy_record.specs.Entries.{Entry, blank, Rising, below, from, putIn, runLen}
 use Rattle.proxy_record.specs.State.{State, Ok, begun, changed}
-use Rattle.proxy_record.proofs.EntriesLaws.{below-none, from-all, from-drop, rising-from, rising-put, length-put, from-put, run-bound, from-run}
+use Rattle.proxy_record.proofs.EntriesLaws.{below-none, from-all, from-skip, from-drop, rising-from, rising-put, length-put, from-put, run-bound, from-run}
 use Rattle.sequence_number.specs.Outcome.{done, refused}
 use Rattle.proxy_core.specs.Calls.{noted, put, rebased, moveOn, discard, settled, cap, lowestGone, trim, capped, unforced, ended, got, lost, receivedAt, received, irrelevantAt, irrelevant, without, skipped, putEach, rangeAt, irrelevantRange}
 use Rattle.proxy_core.proofs.NatLaws.{nat-top}
@@ -122,6 +122,21 @@ settled-first e s h k =
     let a : s .base ≤ e .number = omega arith in
     let b : e .number < e .number + 1 = omega arith in
     rw (h, eq-eqb (e .number) (s .base) k, ← k, le-leb (e .number) (e .number) (omega arith), eq-eqb (e .number) (e .number) refl, lt-leb (e .number + 1) (e .number) b)
+
+-- the base's own number: the base steps over it, and it is not tracked
+pub settled-base : (e : Entry) (s : State) → Ok cap s → e .number ≡ s .base → e .number < top
+    → settled (e .number) (put e s) ≡ discard (moveOn (rebased (suc (e .number)) (changed (from (suc (e .number)) (s .tracked)) s)))
+unfolding settled discard moveOn putIn runLen
+settled-base e s o h j =
+    let n = e .number in
+    let m : List Entry = from (suc n) (s .tracked) in
+    let b : below n (s .tracked) ≡ [] = below-none (s .base) top n (s .tracked) (o .rising) (omega arith) in
+    let r : Rising (suc n) top m = rising-from (s .base) top (suc n) (s .tracked) (o .rising) in
+    let f : from n (e ∷ m) ≡ e ∷ m = from-all n top n (e ∷ m) (omega arith, j, r) (omega arith) in
+    let g : from (suc n) m ≡ m = from-all (suc n) top (suc n) m r (omega arith) in
+    let k : n + suc (runLen (suc n) m) ≡ suc n + runLen (suc n) m = omega arith in
+    let q : from (suc n + runLen (suc n) m) (e ∷ m) ≡ from (suc n + runLen (suc n) m) m = from-skip (suc n + runLen (suc n) m) e m (omega arith) in
+    rw (eq-eqb n (s .base) h, ← h, b, f, eq-eqb n n refl, k, q, g)
 
 ok-settled : (e : Entry) (s : State) → Ok cap s → e .number < top → Ok (suc cap) (settled (e .number) (put e s))
 ok-settled e s o h =

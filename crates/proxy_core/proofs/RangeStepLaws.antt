@@ -17,7 +17,7 @@ use Rattle.sequence_number.specs.Outcome.{done}
 use Rattle.proxy_record.specs.Entries.{Entry, blank, Rising, from, rank}
 use Rattle.proxy_record.specs.State.{State, Ok, changed}
 use Rattle.proxy_record.specs.Column.{Placed}
-use Rattle.proxy_record.specs.Record.{GoodUpTo, recordOf, stateOf, tracked, Good}
+use Rattle.proxy_record.specs.Record.{recordOf, stateOf, tracked, Good}
 use Rattle.proxy_record.proofs.EntriesLaws.{rising-any, from-drop, rank-within, rank-low, rising-from}
 use Rattle.proxy_record.proofs.PartLaws.{base-laid}
 use Rattle.proxy_record.proofs.RecordLaws.{kept-of, of-laid, state-of}
@@ -27,9 +27,9 @@ use Rattle.proxy_core.specs.declared.Report.the-variants.{Done, Forced, 
 use Rattle.proxy_core.specs.Calls.{put, rebased, moveOn, discard, cap, ended, forced, lost, skipped, putEach, rangeAt, irrelevantRange, Answered}
 use Rattle.proxy_core.proofs.NatLaws.{nat-top}
 use Rattle.sequence_number.proofs.KindLaws.{rank-above}
-use Rattle.proxy_core.proofs.CallsLaws.{ok-put, ended-few, skipped-none, skipped-some, ok-cut, skipped-same, range-at-low, range-at-above, ok-range}
+use Rattle.proxy_core.proofs.CallsLaws.{ok-put, ended-few, skipped-none, skipped-some, skipped-same, range-at-low, range-at-above, ok-range}
 use Rattle.proxy_core.proofs.RangeLaws.{gone, rangeIn, rising-range, length-range, each-is, each-more, ended-many, get-low, drop-high, get-high, range-drop, rising-drop, range-from}
-use Rattle.proxy_core.proofs.StepLaws.{answered, good-of, base-word, good-more}
+use Rattle.proxy_core.proofs.StepLaws.{answered, good-of, base-word}
 
 -- entries at the front go, and c is the base
 abbrev pub cutState : List ℕ → ℕ → ℕ → State
@@ -54,20 +54,13 @@ module _ (w : List ℕ) (g : Good w) (b : ℕ) (j : b ≤ top) where
       let k : b ≤ stateOf w .base = rw (base-word cap w (omega arith) g) at h in
       rw (skipped-none 0 b (stateOf w) (g .ok) (omega arith) k) (g .made)
 
-  module _ (h : getD w 0 0 < b) (n : ℕ) (p : Placed b (getD w 1 0) n (take 257 (drop 4 w))) (u : List ℕ) (e : u ≡ recordOf (changed (drop n (tracked w)) (stateOf w))) where
-    past : stateOf w .base < b
-    past = rw (base-word cap w (omega arith) g) at h
+  pub skip-past : getD w 0 0 < b → stateOf w .base ≤ b
+  skip-past h = omega (arith, base-word cap w (omega arith) g)
 
-    skip-cut : cutState w n b ≡ rebased b (changed (from b (tracked w)) (stateOf w))
-    skip-cut = ap (λ (l : List Entry). rebased b (changed l (stateOf w))) (rw (place-row w g (getD w 1 0) b n (g .count) p) (from-drop (stateOf w .base) top b (tracked w) (g .ok .rising)))
-
-    pub skip-good : GoodUpTo 257 (set u 0 b)
-    skip-good = good-more (set u 0 b) (cut-good w g n b u e (rw skip-cut (ok-cut b (stateOf w) (g .ok) (omega (arith, past)) j)))
-
-    pub skip-some : (o : List ℕ) → o ≡ recordOf (discard (moveOn (stateOf (set u 0 b)))) → o ≡ recordOf (skipped 0 b (stateOf w))
-    skip-some o q =
-        q ∙ ap (λ (s : State). recordOf (discard (moveOn s))) (cut-state w g n b u e ∙ skip-cut)
-        ∙ ap recordOf (sym (skipped-some 0 b (stateOf w) (g .ok) (omega arith) past))
+  pub skip-some : (o : List ℕ) → getD w 0 0 < b → o ≡ recordOf (discard (moveOn (rebased b (changed (from b (tracked w)) (stateOf w))))) → o ≡ recordOf (skipped 0 b (stateOf w))
+  skip-some o h q =
+      let k : stateOf w .base < b = omega (arith, base-word cap w (omega arith) g) in
+      q ∙ ap recordOf (sym (skipped-some 0 b (stateOf w) (g .ok) (omega arith) k))
 
 -- where the loop of `fill` stands: the rest of the numbers leads to the same
 pub record Filling (w₀ w : List ℕ) (a m i : ℕ) : Type 0 where

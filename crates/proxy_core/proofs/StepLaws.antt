@@ -1,11 +1,13 @@
 -- The steps of `base` and `received` in place: what the record is after each, in the words of the code, and what a call makes of a number. Assumes nothing.
 use Prim.Native.Nat.{ℕ, zero, suc, _+_, _-_, _<_, _≤_, max}
 use native.Mathlib.Omega.{arith}
+use native.Mathlib.Numerals.{add-one}
 use mathlib.Core.Logic.{⊎-elim}
 use mathlib.Core.Path.{_≡_, refl, sym, ap, _∙_, subst}
 use mathlib.Core.Bool.{cond}
 use mathlib.Core.List.{List, [], _∷_}
 use lib.ListN.{length, take, drop, getD, set, length-drop, drop-of-length-le}
+use lib.Seq.{drop-drop}
 use lib.IntN.{ℤ}
 use mir.Syntax.{w64}
 use mir.Val.{SFits, ofZ, toZ}
@@ -13,18 +15,17 @@ use borrow.Author.Tests.{lt-ltb, le-ltb, eq-eqb, ne-eqb}
 use Rattle.sequence_number.specs.Number.{top, isNumber, natOf, numberOf}
 use Rattle.sequence_number.specs.Outcome.{done}
 use Rattle.sequence_number.proofs.NumberLaws.{number-passed}
-use Rattle.proxy_record.specs.Entries.{Entry, blank, from, runLen}
+use Rattle.proxy_record.specs.Entries.{Entry, Rising, blank, rank, from, runLen}
 use Rattle.proxy_record.specs.State.{State, Ok, changed}
-use Rattle.proxy_record.specs.Column.{Runs}
 use Rattle.proxy_record.specs.Record.{GoodUpTo, column, recordOf, stateOf, tracked, Good}
-use Rattle.proxy_record.proofs.EntriesLaws.{rising-top, from-all, run-bound, from-run}
+use Rattle.proxy_record.proofs.EntriesLaws.{rising-top, rising-from, from-all, from-drop, rank-within, run-within, run-bound, from-run}
 use Rattle.proxy_record.proofs.PartLaws.{base-at, last-at, base-laid, last-laid, time-laid}
 use Rattle.proxy_record.proofs.RecordLaws.{kept-of, good-kept, of-laid, state-of, good-is}
 use Rattle.proxy_record.proofs.RowLaws.{number-word}
 use Rattle.proxy_core.specs.declared.Report.{Report}
 use Rattle.proxy_core.specs.declared.Report.the-variants.{Done, Forced, Refused}
-use Rattle.proxy_core.specs.Calls.{Reply, noted, put, moveOn, discard, settled, cap, capped, ended, refuses, forced, got, receivedAt, received, irrelevant, Answered}
-use Rattle.proxy_core.proofs.CallsLaws.{ok-more, ok-noted, ok-put, ok-advanced, settled-old, settled-at, settled-other, settled-first, ended-few, lowest-gone, noted-kept, received-is, ok-received, ok-irrelevant}
+use Rattle.proxy_core.specs.Calls.{Reply, noted, put, rebased, moveOn, discard, settled, cap, capped, ended, refuses, forced, got, receivedAt, received, irrelevant, Answered}
+use Rattle.proxy_core.proofs.CallsLaws.{ok-more, ok-noted, ok-put, ok-advanced, ok-cut, settled-old, settled-base, settled-other, settled-first, ended-few, lowest-gone, noted-kept, received-is, ok-received, ok-irrelevant}
 
 -- what a call answers and leaves is what a reply says
 pub answered : (r : Report) (o : List ℕ) (x y : Reply) → x ≡ y → Answered r o x → Answered r o y
@@ -50,55 +51,38 @@ module _ (w : List ℕ) (n t : ℕ) (g : Good w) where
       let k : n ≤ stateOf w .last = rw (last-at (good-kept cap w (omega arith) g)) at h in
       rw (le-ltb (stateOf w .last) n k) (g .made)
 
--- a run, by its words
-run-is : (b r : ℕ) (l : List Entry) → r ≤ length l → ((i : ℕ) → i < r → getD l i blank .number ≡ b + i)
-    → (r < length l → getD l r blank .number ≡ b + r → ⊥) → r ≡ runLen b l
-unfolding runLen
-run-is b r [] h each stop = omega arith
-run-is b zero (x ∷ l) h each stop =
-    let k : x .number ≡ b → ⊥ = λ e. stop (omega arith) (omega arith) in
-    rw (ne-eqb (x .number) b k)
-run-is b (suc r) (x ∷ l) h each stop =
-    let k : x .number ≡ b = omega (arith, each 0 (omega arith)) in
-    rw (eq-eqb (x .number) b k)
-    (ap suc
-    (run-is (suc b) r l (omega arith)
-    (λ i q. omega (arith, each (suc i) (omega arith)))
-    (λ q e. stop (omega arith) (omega arith))))
-
 -- the base's word
 pub base-word : (m : ℕ) (w : List ℕ) → m ≤ 257 → GoodUpTo m w → getD w 0 0 ≡ stateOf w .base
 base-word m w h g = base-at (good-kept m w h g)
 
-module _ (w : List ℕ) (g : GoodUpTo 257 w) where
-  pub base-low : getD w 0 0 ≤ top
-  base-low = rw (base-word 257 w (omega arith) g) (g .ok .high)
+-- `advance_ack_base`: k is the place of b, and r how far the numbers from there on go b, b + 1, ..
+module _ (w : List ℕ) (g : Good w) (b k r : ℕ) (j : b ≤ top) (p : k ≡ rank b (tracked w)) (q : r ≡ runLen b (drop k (tracked w))) where
+  high : Rising b top (from b (tracked w))
+  high = rising-from (stateOf w .base) top b (tracked w) (g .ok .rising)
 
-  run-row : (k : ℕ) → Runs (getD w 0 0) (getD w 1 0) k (take 257 (drop 4 w)) → k ≡ runLen (stateOf w .base) (tracked w)
-  run-row k r =
-      let d = base-word 257 w (omega arith) g in
-      run-is (stateOf w .base) k (tracked w) (omega (arith, r .within, g .count))
-      (λ i h. rw (← number-word 257 i w (omega arith) g (omega (arith, r .within, g .count)), ← d) (r .each i h))
-      (λ h e. r .stop (omega (arith, g .count)) (number-word 257 k w (omega arith) g h ∙ e ∙ ap (λ (b : ℕ). b + k) (sym d)))
+  high-is : drop k (tracked w) ≡ from b (tracked w)
+  high-is = rw p (from-drop (stateOf w .base) top b (tracked w) (g .ok .rising))
 
-  -- `advance_ack_base`
-  pub advance-fits : (k : ℕ) → Runs (getD w 0 0) (getD w 1 0) k (take 257 (drop 4 w)) → getD w 0 0 + k ≤ top
-  advance-fits k r =
-      rw (base-word 257 w (omega arith) g, run-row k r) (run-bound (stateOf w .base) top (stateOf w .base) (tracked w) (g .ok .rising) (g .ok .high))
+  pub advance-within : k + r ≤ length (tracked w)
+  advance-within = omega (arith, q, run-within b (drop k (tracked w)), length-drop k (tracked w), p, rank-within b (tracked w))
 
-  pub advanced : (k : ℕ) (u : List ℕ) → Runs (getD w 0 0) (getD w 1 0) k (take 257 (drop 4 w)) → u ≡ recordOf (changed (drop k (tracked w)) (stateOf w))
-      → set u 0 (getD w 0 0 + k) ≡ recordOf (discard (moveOn (stateOf w)))
+  pub advance-fits : b + r ≤ top
+  advance-fits = rw (q, high-is) (run-bound b top b (from b (tracked w)) high j)
+
+  pub advanced : (u : List ℕ) → u ≡ recordOf (changed (drop (k + r) (tracked w)) (stateOf w)) → set u 0 (b + r) ≡ recordOf (discard (moveOn (rebased b (changed (from b (tracked w)) (stateOf w)))))
   unfolding discard moveOn
-  advanced k u r e =
+  advanced u e =
       let s = stateOf w in
-      let f : from (s .base) (s .tracked) ≡ s .tracked = from-all (s .base) top (s .base) (s .tracked) (g .ok .rising) (omega arith) in
-      let q : k ≡ runLen (s .base) (s .tracked) = run-row k r in
-      let c : drop k (s .tracked) ≡ from (s .base + runLen (s .base) (s .tracked)) (s .tracked) = rw q (sym (from-run (s .base) top (s .base) (s .tracked) (g .ok .rising) (omega arith))) in
-      let d = kept-of (changed (drop k (s .tracked)) s) u (simp length-drop (omega (arith, g .ok .few))) e in
-      rw (f, ← c, ← q)
-      (of-laid (record { base = s .base + k; tracked = drop k (s .tracked); last = s .last; time = s .time }) (base-laid d (getD w 0 0 + k))
-      (ap (λ (b : ℕ). b + k) (base-word 257 w (omega arith) g)) refl refl refl refl refl refl)
+      let f : from b (from b (tracked w)) ≡ from b (tracked w) = from-all b top b (from b (tracked w)) high (omega arith) in
+      let v : r ≡ runLen b (from b (tracked w)) = q ∙ ap (runLen b) high-is in
+      let c : drop (k + r) (tracked w) ≡ from (b + r) (from b (tracked w)) =
+      sym (drop-drop r k (tracked w)) ∙ ap (drop r) high-is
+      ∙ rw v (sym (from-run b top b (from b (tracked w)) high (omega arith))) in
+      let d = kept-of (changed (drop (k + r) (tracked w)) s) u (simp length-drop (omega (arith, g .ok .few))) e in
+      rw (f, ← v, ← c)
+      (of-laid (record { base = b + r; tracked = drop (k + r) (tracked w); last = s .last; time = s .time }) (base-laid d (b + r)) refl refl refl refl refl refl refl)
 
+module _ (w : List ℕ) (g : GoodUpTo 257 w) where
   -- `enforce_change_map_cap`
   pub cap-none : getD w 1 0 ≤ cap → Answered Done w (ended (stateOf w))
   cap-none h =
@@ -127,30 +111,29 @@ module _ (w : List ℕ) (g : GoodUpTo 257 w) where
       )
 
 -- `track`: p is the record that the entry was put in
-module _ (w : List ℕ) (g : Good w) (e : Entry) (h : stateOf w .base ≤ e .number) (j : e .number < top) (p : List ℕ) (f : p ≡ recordOf (put e (stateOf w))) where
-  put-ok : Ok 257 (put e (stateOf w))
-  put-ok = ok-put cap e (stateOf w) (g .ok) h j
+module _ (w : List ℕ) (g : Good w) (e : Entry) (h : stateOf w .base ≤ e .number) (j : e .number < top) where
+  module _ (p : List ℕ) (f : p ≡ recordOf (put e (stateOf w))) where
+    put-ok : Ok 257 (put e (stateOf w))
+    put-ok = ok-put cap e (stateOf w) (g .ok) h j
 
-  pub put-good : GoodUpTo 257 p
-  put-good = good-is 257 p (put e (stateOf w)) (omega arith) put-ok f
+    pub put-good : GoodUpTo 257 p
+    put-good = good-is 257 p (put e (stateOf w)) (omega arith) put-ok f
 
-  put-state : stateOf p ≡ put e (stateOf w)
-  put-state = state-of (put e (stateOf w)) p (put-ok .few) f
+    put-state : stateOf p ≡ put e (stateOf w)
+    put-state = state-of (put e (stateOf w)) p (put-ok .few) f
 
-  pub track-above : (r : Report) (o : List ℕ) → (e .number ≡ getD w 0 0 → ⊥) → Answered r o (ended (stateOf p)) → Answered r o (ended (settled (e .number) (put e (stateOf w))))
-  track-above r o k a =
-      let z : e .number ≡ stateOf w .base → ⊥ = λ q. k (q ∙ sym (base-word cap w (omega arith) g)) in
-      answered r o (ended (stateOf p)) _ (ap ended (put-state ∙ sym (settled-other 257 (e .number) (put e (stateOf w)) put-ok z))) a
+    pub track-above : (r : Report) (o : List ℕ) → (e .number ≡ getD w 0 0 → ⊥) → Answered r o (ended (stateOf p)) → Answered r o (ended (settled (e .number) (put e (stateOf w))))
+    track-above r o k a =
+        let z : e .number ≡ stateOf w .base → ⊥ = λ q. k (q ∙ sym (base-word cap w (omega arith) g)) in
+        answered r o (ended (stateOf p)) _ (ap ended (put-state ∙ sym (settled-other 257 (e .number) (put e (stateOf w)) put-ok z))) a
 
-  pub advanced-good : (a : List ℕ) → a ≡ recordOf (discard (moveOn (stateOf p))) → GoodUpTo 257 a
-  advanced-good a q = good-is 257 a (discard (moveOn (stateOf p))) (omega arith) (ok-advanced 257 (stateOf p) (put-good .ok)) q
-
-  pub track-base : (r : Report) (a o : List ℕ) → a ≡ recordOf (discard (moveOn (stateOf p))) → e .number ≡ getD w 0 0 → Answered r o (ended (stateOf a))
-      → Answered r o (ended (settled (e .number) (put e (stateOf w))))
-  track-base r a o q k z =
-      let y : stateOf a ≡ discard (moveOn (stateOf p)) = state-of (discard (moveOn (stateOf p))) a (ok-advanced 257 (stateOf p) (put-good .ok) .few) q in
-      answered r o (ended (stateOf a)) _
-      (ap ended (y ∙ ap (λ (x : State). discard (moveOn x)) put-state ∙ sym (settled-at (e .number) (put e (stateOf w)) (k ∙ base-word cap w (omega arith) g)))) z
+  pub track-base : (o : List ℕ) → e .number ≡ getD w 0 0 → o ≡ recordOf (discard (moveOn (rebased (e .number + 1) (changed (from (e .number + 1) (tracked w)) (stateOf w)))))
+      → Answered Done o (ended (settled (e .number) (put e (stateOf w))))
+  track-base o k z =
+      let b : e .number ≡ stateOf w .base = k ∙ base-word cap w (omega arith) g in
+      let s = discard (moveOn (rebased (suc (e .number)) (changed (from (suc (e .number)) (tracked w)) (stateOf w)))) in
+      let f : length (s .tracked) ≤ cap = ok-advanced cap _ (ok-cut (suc (e .number)) (stateOf w) (g .ok) (omega arith) j) .few in
+      rw (settled-base e (stateOf w) (g .ok) b j, ended-few s f) (refl, rw add-one at z)
 
 -- `received_any`, `received_at`: v is the record that the number was noted in
 module _ (n t : ℕ) (w v : List ℕ) (g : Good w) (j : n < top) (e : v ≡ recordOf (noted n t (stateOf w))) where

@@ -2,8 +2,10 @@
 ghost use mathlib.Core.Path.{_≡_};
 ghost use Prim.Native.Nat.{_<_, _≤_};
 ghost use Rattle.sequence_number.specs.Number.{top};
-ghost use Rattle.proxy_record.specs.Record.{GoodUpTo, Good, Marks, entryOf, recordOf, stateOf};
-ghost use Rattle.proxy_core.specs.Calls.{noted, put, moveOn, discard, settled, ended, Answered};
+ghost use Rattle.proxy_record.specs.Entries.{from};
+ghost use Rattle.proxy_record.specs.State.{changed};
+ghost use Rattle.proxy_record.specs.Record.{GoodUpTo, Good, Marks, entryOf, recordOf, stateOf, tracked};
+ghost use Rattle.proxy_core.specs.Calls.{noted, put, rebased, moveOn, discard, settled, ended, Answered};
 use crate::Report;
 use proxy_record::BASE;
 use proxy_record::COUNT;
@@ -25,16 +27,16 @@ pub fn note(t: &mut [u64], n: u64, time: u64)
     }
 }
 
-// The base moves to the first untracked number, and tracked numbers below it go.
-pub fn advance_ack_base(t: &mut [u64])
-    requires { ⌜ GoodUpTo 257 (now t) ⌝ }
-    ensures { λ r. ⌜ now (t .exit) ≡ recordOf (discard (moveOn (stateOf (now (t .entry))))) ⌝ }
+// The base becomes b and moves on to the first untracked number, and tracked numbers below it go: at once, so that the table moves once.
+pub fn advance_ack_base(t: &mut [u64], b: u64)
+    requires { ⌜ Good (now t) × (stateOf (now t) .base ≤ b) × (b ≤ top) ⌝ }
+    ensures { λ r. ⌜ now (t .exit) ≡ recordOf (discard (moveOn (rebased b (changed (from b (tracked (now (t .entry)))) (stateOf (now (t .entry))))))) ⌝ }
 {
-    let base = t[BASE];
+    let k = rows::place(t, b);
+    let r = rows::run_from(t, k, b);
     let len = t[COUNT] as usize;
-    let k = column::run(&t[NUMBERS..KINDS], len, base);
-    rows::shut_rows(t, len, k);
-    t[BASE] = base + k as u64;
+    rows::shut_rows(t, len, k + r);
+    t[BASE] = b + r as u64;
 }
 
 // Above 256 tracked, the lowest goes and the base becomes at least one more.
@@ -58,16 +60,16 @@ pub fn enforce_change_map_cap(t: &mut [u64]) -> Report
     Report::Forced(old, new)
 }
 
-// A number at the base or above it is put; the base moves on if it is that one; the cap is last.
+// A number at the base or above it is put, and the cap is last. The base's own number is not put: the base steps over it.
 pub fn track(t: &mut [u64], n: u64, kind: u64, time: u64) -> Report
     requires { ⌜ Good (now t) × Marks kind time × (stateOf (now t) .base ≤ n) × (n < top) ⌝ }
     ensures { λ r. ⌜ Answered r (now (t .exit)) (ended (settled n (put (entryOf n kind time) (stateOf (now (t .entry)))))) ⌝ }
 {
     let base = t[BASE];
-    rows::put(t, n, kind, time);
-    if n == base {
-        advance_ack_base(t);
+    if n != base {
+        rows::put(t, n, kind, time);
         return enforce_change_map_cap(t);
     }
-    enforce_change_map_cap(t)
+    advance_ack_base(t, n + 1);
+    Report::Done
 }

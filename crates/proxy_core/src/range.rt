@@ -23,11 +23,7 @@ pub fn skip_to(t: &mut [u64], b: u64)
     if b <= t[BASE] {
         return;
     }
-    let len = t[COUNT] as usize;
-    let k = column::place_of(&t[NUMBERS..KINDS], len, b);
-    rows::shut_rows(t, len, k);
-    t[BASE] = b;
-    base::advance_ack_base(t);
+    base::advance_ack_base(t, b);
 }
 
 // The m numbers from a on are put, one by one.

@@ -194,6 +194,15 @@ run-bound lo hi b (x ∷ l) r h =
     (λ e. rw (ne-eqb (x .number) b e) (omega arith))
     (split-eq (x .number) b)
 
+pub run-within : (b : ℕ) (l : List Entry) → runLen b l ≤ length l
+unfolding runLen
+run-within b [] = omega arith
+run-within b (x ∷ l) =
+    ⊎-elim
+    (λ e. rw (eq-eqb (x .number) b e) (omega (arith, run-within (suc b) l)))
+    (λ e. rw (ne-eqb (x .number) b e) (omega arith))
+    (split-eq (x .number) b)
+
 -- what is left from the end of the run on
 pub from-run : (lo hi b : ℕ) (l : List Entry) → Rising lo hi l → b ≤ lo → from (b + runLen b l) l ≡ drop (runLen b l) l
 unfolding runLen from

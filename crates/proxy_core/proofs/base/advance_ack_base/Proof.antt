@@ -1,35 +1,37 @@
--- `proxy_core::base::advance_ack_base` meets its contract: the run from the base on is what the base passes, and what goes. Assumes nothing.
+-- `proxy_core::base::advance_ack_base` meets its contract: what is below b and the run from b on are what goes. Assumes nothing.
 use native.Mathlib.Omega.{arith}
 use borrow.Author.Needs.{needs}
-use Rattle.proxy_core.proofs.StepLaws.{base-low, advance-fits, advanced}
+use Rattle.proxy_record.specs.Record.{tracked}
+use Rattle.proxy_record.proofs.EntriesLaws.{rank-within}
+use Rattle.proxy_core.proofs.StepLaws.{good-more, advance-within, advance-fits, advanced}
 use Rattle.proxy_core.proofs.base.advance_ack_base.Statement.{statement}
 use Rattle.proxy_core.proofs.base.advance_ack_base.Tie as tie
 
-slice-read-base : tie.Need-slice-read-base
-slice-read-base c = search needs
+place-requires : tie.Need-place-requires
+place-requires c κs = search needs
+
+run-from-requires : tie.Need-run-from-requires
+run-from-requires c κs =
+    let s = c .before .before .before .before in
+    (s .pre .0, omega (arith, c .before .place .ensures, rank-within (s .args .b) (tracked (s .args .t .now))), s .pre .2)
 
 slice-read-len : tie.Need-slice-read-len
 slice-read-len c = search needs
 
-sub-run : tie.Need-sub-run
-sub-run c = search needs
-
-part-run-start : tie.Need-part-run-start
-part-run-start c = search needs
-
-part-run-end : tie.Need-part-run-end
-part-run-end c = search needs
-
-run-requires : tie.Need-run-requires
-run-requires c κs =
-    let s = c .before .before .before .before .before in
-    (search needs, omega (arith, base-low _ (s .pre), s .pre .count, s .pre .ok .few))
+add-shut-rows : tie.Need-add-shut-rows
+add-shut-rows c =
+    let s = c .before .before .before .before .before .before .before in
+    omega (arith, advance-within (s .args .t .now) (s .pre .0) (s .args .b) (c .before .before .before .before .place .result) (c .before .before .run-from .result) (s .pre .2) (c .before .before .before .before .place .ensures) (c .before .before .run-from .ensures), s .pre .0 .ok .few)
 
 shut-rows-requires : tie.Need-shut-rows-requires
-shut-rows-requires c κs = search needs
+shut-rows-requires c κs =
+    let s = c .before .before .before .before .before .before .before in
+    (good-more _ (s .pre .0), s .pre .0 .count, omega (arith, s .pre .0 .count, advance-within (s .args .t .now) (s .pre .0) (s .args .b) (c .before .before .before .before .place .result) (c .before .before .run-from .result) (s .pre .2) (c .before .before .before .before .place .ensures) (c .before .before .run-from .ensures)))
 
 add-t : tie.Need-add-t
-add-t c = omega (arith, advance-fits _ (c .before .before .before .before .before .before .before .before .before .before .pre) _ (c .before .before .before .before .run .ensures))
+add-t c =
+    let s = c .before .before .before .before .before .before .before .before .before .before in
+    omega (arith, advance-fits (s .args .t .now) (s .pre .0) (s .args .b) (c .before .before .before .before .before .before .before .place .result) (c .before .before .before .before .before .run-from .result) (s .pre .2) (c .before .before .before .before .before .before .before .place .ensures) (c .before .before .before .before .before .run-from .ensures))
 
 slice-write-t : tie.Need-slice-write-t
 slice-write-t c = search needs
@@ -38,18 +40,18 @@ same-length : tie.Need-same-length
 same-length c = search needs
 
 returns : tie.Need-returns
-returns c = advanced _ (c .before .before .before .before .before .before .before .before .before .before .pre) _ _ (c .before .before .before .before .run .ensures) (c .before .before .shut-rows .ensures)
+returns c =
+    let s = c .before .before .before .before .before .before .before .before .before .before in
+    advanced (s .args .t .now) (s .pre .0) (s .args .b) (c .before .before .before .before .before .before .before .place .result) (c .before .before .before .before .before .run-from .result) (s .pre .2) (c .before .before .before .before .before .before .before .place .ensures) (c .before .before .before .before .before .run-from .ensures) (c .before .before .shut-rows .last .0) (c .before .before .shut-rows .ensures)
 
 pub advance-ack-base-spec : {M : Type 1} → statement M
 advance-ack-base-spec =
     tie.close
     (tie.spec
-    slice-read-base
+    place-requires
+    run-from-requires
     slice-read-len
-    sub-run
-    part-run-start
-    part-run-end
-    run-requires
+    add-shut-rows
     shut-rows-requires
     add-t
     slice-write-t

@@ -1,7 +1,8 @@
--- `proxy_core::base::track` meets its contract: 257 are tracked at most after the put, and only the base's own number moves it on. Assumes nothing.
+-- `proxy_core::base::track` meets its contract: 257 are tracked at most after the put, and the base steps over its own number. Assumes nothing.
+use native.Mathlib.Omega.{arith}
 use borrow.Author.Needs.{needs}
 use Rattle.proxy_record.specs.Record.{entryOf}
-use Rattle.proxy_core.proofs.StepLaws.{put-good, track-above, advanced-good, track-base}
+use Rattle.proxy_core.proofs.StepLaws.{put-good, track-above, track-base}
 use Rattle.proxy_core.proofs.base.track.Statement.{statement}
 use Rattle.proxy_core.proofs.base.track.Tie as tie
 
@@ -11,41 +12,35 @@ slice-read-base c = search needs
 put-requires : tie.Need-put-requires
 put-requires c κs = search needs
 
-advance-ack-base-requires : tie.Need-advance-ack-base-requires
-advance-ack-base-requires c κs =
-    let s = c .before .before .before .before .before .before .before .before in
-    let a = s .args in
-    put-good (a .t .now) (s .pre .0) (entryOf (a .n) (a .kind) (a .time)) (s .pre .2) (s .pre .3) _ (c .before .before .before .before .put .ensures)
-
 enforce-change-map-cap-requires : tie.Need-enforce-change-map-cap-requires
 enforce-change-map-cap-requires c κs =
-    let s = c .before .before .before .before .before .before .before .before .before .before .before .before in
+    let s = c .before .before .before .before .before .before .before .before in
     let a = s .args in
-    advanced-good (a .t .now) (s .pre .0) (entryOf (a .n) (a .kind) (a .time)) (s .pre .2) (s .pre .3) _ (c .before .before .before .before .before .before .before .before .put .ensures) _ (c .before .before .before .advance-ack-base .ensures)
+    put-good (a .t .now) (s .pre .0) (entryOf (a .n) (a .kind) (a .time)) (s .pre .2) (s .pre .3) _ (c .before .before .before .put .ensures)
 
 same-length : tie.Need-same-length
 same-length c = search needs
 
 returns : tie.Need-returns
 returns c =
-    let s = c .before .before .before .before .before .before .before .before .before .before .before .before .before .before .before in
+    let s = c .before .before .before .before .before .before .before .before .before .before .before in
     let a = s .args in
-    track-base (a .t .now) (s .pre .0) (entryOf (a .n) (a .kind) (a .time)) (s .pre .2) (s .pre .3) _ (c .before .before .before .before .before .before .before .before .before .before .before .put .ensures) (c .before .before .enforce-change-map-cap .result) _ _ (c .before .before .before .before .before .before .advance-ack-base .ensures) (c .before .before .before .before .before .before .before .before .if1 .taken) (c .before .before .enforce-change-map-cap .ensures)
+    track-above (a .t .now) (s .pre .0) (entryOf (a .n) (a .kind) (a .time)) (s .pre .2) (s .pre .3) _ (c .before .before .before .before .before .before .put .ensures) (c .before .before .enforce-change-map-cap .result) _ (c .before .before .before .before .before .before .before .before .if1 .taken) (c .before .before .enforce-change-map-cap .ensures)
 
-enforce-change-map-cap-requires-2 : tie.Need-enforce-change-map-cap-requires-2
-enforce-change-map-cap-requires-2 c κs =
-    let s = c .before .before .before .before .before .before .before .before in
-    let a = s .args in
-    put-good (a .t .now) (s .pre .0) (entryOf (a .n) (a .kind) (a .time)) (s .pre .2) (s .pre .3) _ (c .before .before .before .before .put .ensures)
+add-advance-ack-base : tie.Need-add-advance-ack-base
+add-advance-ack-base c = search needs
+
+advance-ack-base-requires : tie.Need-advance-ack-base-requires
+advance-ack-base-requires c κs = search needs
 
 same-length-2 : tie.Need-same-length-2
 same-length-2 c = search needs
 
 returns-2 : tie.Need-returns-2
 returns-2 c =
-    let s = c .before .before .before .before .before .before .before .before .before .before .before in
+    let s = c .before .before .before .before .before .before .before in
     let a = s .args in
-    track-above (a .t .now) (s .pre .0) (entryOf (a .n) (a .kind) (a .time)) (s .pre .2) (s .pre .3) _ (c .before .before .before .before .before .before .before .put .ensures) (c .before .before .enforce-change-map-cap2 .result) _ (c .before .before .before .before .if1 .left) (c .before .before .enforce-change-map-cap2 .ensures)
+    track-base (a .t .now) (s .pre .0) (entryOf (a .n) (a .kind) (a .time)) (s .pre .2) (s .pre .3) _ (c .before .before .before .before .if1 .left) (c .before .before .advance-ack-base .ensures)
 
 pub track-spec : {M : Type 1} → statement M
 track-spec =
@@ -53,10 +48,10 @@ track-spec =
     (tie.spec
     slice-read-base
     put-requires
-    advance-ack-base-requires
     enforce-change-map-cap-requires
     same-length
     returns
-    enforce-change-map-cap-requires-2
+    add-advance-ack-base
+    advance-ack-base-requires
     same-length-2
     returns-2)

@@ -1,0 +1,60 @@
+-- `sample::args::to_bytes` is safe and ends: there are as many lent bytes as words. Assumes nothing.
+use Prim.Native.Nat.{_≤_, _-_}
+use lib.ListN.{length}
+use mathlib.Core.Path.{_≡_, refl}
+use borrow.Author.Needs.{needs}
+use Rattle.sample.proofs.args.to_bytes.Statement.{statement}
+use Rattle.sample.proofs.args.to_bytes.Tie as tie
+
+abbrev Inv-loop : tie.InvT-loop
+Inv-loop a out₀ i₀ out i = (i ≤ length a) × (length out ≡ length out₀)
+
+abbrev μ-loop : tie.MeasureT-loop
+μ-loop a out₀ i₀ out i = length a - i
+
+loop-holds : tie.Need-loop-holds Inv-loop μ-loop
+loop-holds c = search needs
+
+mul-low-byte : tie.Need-mul-low-byte Inv-loop μ-loop
+mul-low-byte c = search needs
+
+shared-slice-read-low-byte : tie.Need-shared-slice-read-low-byte Inv-loop μ-loop
+shared-slice-read-low-byte c = search needs
+
+low-byte-requires : tie.Need-low-byte-requires Inv-loop μ-loop
+low-byte-requires c κs = search needs
+
+slice-write-out : tie.Need-slice-write-out Inv-loop μ-loop
+slice-write-out c = search needs
+
+add-i : tie.Need-add-i Inv-loop μ-loop
+add-i c = search needs
+
+loop-less : tie.Need-loop-less Inv-loop μ-loop
+loop-less c = search needs
+
+loop-again : tie.Need-loop-again Inv-loop μ-loop
+loop-again c = search needs
+
+same-length : tie.Need-same-length Inv-loop μ-loop
+same-length c = search needs
+
+returns : tie.Need-returns Inv-loop μ-loop
+returns c = search needs
+
+pub to-bytes-spec : {M : Type 1} → statement M
+to-bytes-spec =
+    tie.close
+    (tie.spec
+    Inv-loop
+    μ-loop
+    loop-holds
+    mul-low-byte
+    shared-slice-read-low-byte
+    low-byte-requires
+    slice-write-out
+    add-i
+    loop-less
+    loop-again
+    same-length
+    returns)

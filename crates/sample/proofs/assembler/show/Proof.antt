@@ -1,0 +1,51 @@
+-- `sample::assembler::show` is safe. Assumes nothing.
+use native.Mathlib.Omega.{arith}
+use lib.ListN.{length-take}
+use borrow.Author.Needs.{needs}
+use Rattle.sample.proofs.assembler.show.Statement.{statement}
+use Rattle.sample.proofs.assembler.show.Tie as tie
+
+shared-slice-read-n : tie.Need-shared-slice-read-n
+shared-slice-read-n c = search needs
+
+no-call-requires : tie.Need-no-call-requires
+no-call-requires c κs = search needs
+
+returns : tie.Need-returns
+returns c = search needs
+
+slice-aggregate-view : tie.Need-slice-aggregate-view
+slice-aggregate-view c = simp length-take (omega arith)
+
+shared-slice-read-view : tie.Need-shared-slice-read-view
+shared-slice-read-view c = search needs
+
+shared-slice-read-view-2 : tie.Need-shared-slice-read-view-2
+shared-slice-read-view-2 c = search needs
+
+view-requires : tie.Need-view-requires
+view-requires c κs = search needs
+
+first-requires : tie.Need-first-requires
+first-requires c κs = search needs
+
+show-bytes-requires : tie.Need-show-bytes-requires
+show-bytes-requires c κs = search needs
+
+returns-2 : tie.Need-returns-2
+returns-2 c = search needs
+
+pub show-spec : {M : Type 1} → statement M
+show-spec =
+    tie.close
+    (tie.spec
+    shared-slice-read-n
+    no-call-requires
+    returns
+    slice-aggregate-view
+    shared-slice-read-view
+    shared-slice-read-view-2
+    view-requires
+    first-requires
+    show-bytes-requires
+    returns-2)

@@ -1,0 +1,99 @@
+-- `sample::sets::walk_fragment` is safe. Assumes nothing.
+use native.Mathlib.Omega.{arith}
+use lib.ListN.{length-take}
+use borrow.Author.Needs.{needs}
+use Rattle.sample.proofs.sets.walk_fragment.Statement.{statement}
+use Rattle.sample.proofs.sets.walk_fragment.Tie as tie
+
+shared-slice-read-if1 : tie.Need-shared-slice-read-if1
+shared-slice-read-if1 c = search needs
+
+no-call-requires : tie.Need-no-call-requires
+no-call-requires c κs = search needs
+
+returns : tie.Need-returns
+returns c = search needs
+
+shared-slice-read-room : tie.Need-shared-slice-read-room
+shared-slice-read-room c = search needs
+
+fragment-set-requires : tie.Need-fragment-set-requires
+fragment-set-requires c κs = search needs
+
+shared-slice-read-iter : tie.Need-shared-slice-read-iter
+shared-slice-read-iter c = search needs
+
+slice-relend-prefix-iter : tie.Need-slice-relend-prefix-iter
+slice-relend-prefix-iter c = search needs
+
+slice-aggregate-iter : tie.Need-slice-aggregate-iter
+slice-aggregate-iter c = simp length-take (omega arith)
+
+iter-requires : tie.Need-iter-requires
+iter-requires c κs = search needs
+
+enum-known-k : tie.Need-enum-known-k
+enum-known-k c = search needs
+
+cast-words-line : tie.Need-cast-words-line
+cast-words-line c = search needs
+
+slice-reshare-prefix-words-line : tie.Need-slice-reshare-prefix-words-line
+slice-reshare-prefix-words-line c = search needs
+
+slice-aggregate-words-line : tie.Need-slice-aggregate-words-line
+slice-aggregate-words-line c = simp length-take (omega arith)
+
+words-line-requires : tie.Need-words-line-requires
+words-line-requires c κs = search needs
+
+same-length : tie.Need-same-length
+same-length c = search needs
+
+returns-2 : tie.Need-returns-2
+returns-2 c = search needs
+
+enum-known-n : tie.Need-enum-known-n
+enum-known-n c = search needs
+
+slice-reshare-prefix-words-line-2 : tie.Need-slice-reshare-prefix-words-line-2
+slice-reshare-prefix-words-line-2 c = search needs
+
+slice-aggregate-words-line-2 : tie.Need-slice-aggregate-words-line-2
+slice-aggregate-words-line-2 c = simp length-take (omega arith)
+
+words-line-requires-2 : tie.Need-words-line-requires-2
+words-line-requires-2 c κs = search needs
+
+same-length-2 : tie.Need-same-length-2
+same-length-2 c = search needs
+
+returns-3 : tie.Need-returns-3
+returns-3 c = search needs
+
+pub walk-fragment-spec : {M : Type 1} → statement M
+walk-fragment-spec =
+    tie.close
+    (tie.spec
+    shared-slice-read-if1
+    no-call-requires
+    returns
+    shared-slice-read-room
+    fragment-set-requires
+    shared-slice-read-iter
+    slice-relend-prefix-iter
+    slice-aggregate-iter
+    iter-requires
+    enum-known-k
+    cast-words-line
+    slice-reshare-prefix-words-line
+    slice-aggregate-words-line
+    words-line-requires
+    same-length
+    returns-2
+    enum-known-n
+    slice-reshare-prefix-words-line-2
+    slice-aggregate-words-line-2
+    words-line-requires-2
+    same-length-2
+    returns-3)
