@@ -43,6 +43,24 @@ def count_table(groups):
     return lines
 
 
+def unknown_edits(text):
+    """The names of the tables of wrong ports that are no edit: in `code` a must-fail edit, else one of sweep/ports."""
+    there = {True: set(), False: set()}
+    for top, folder in ((os.path.join(ROOT, "crates"), "must-fail"), (os.path.join(HERE, "ports"), "")):
+        for crate in os.listdir(top):
+            at = os.path.join(top, crate, folder)
+            if os.path.isdir(at):
+                there[folder == "must-fail"] |= {e[:-5] for e in os.listdir(at) if e.endswith(".edit")}
+    out = []
+    for line in text[text.index("## Wrong ports") :].splitlines():
+        if line.startswith("| `"):
+            for cell in line.split("|")[2:-1]:
+                for name in (n.strip() for n in cell.split(",")):
+                    if name != "-" and name.strip("`") not in there[name.startswith("`")]:
+                        out.append(name)
+    return out
+
+
 def report():
     why, by_crate, by_kind, accepted, untold = reasons(), {}, {}, [], []
     for crate in libraries():
@@ -75,6 +93,9 @@ def report():
         h.write(text)
     for line in tables["crates"]:
         print(line)
+    lost = unknown_edits(text)
     for line in untold:
         print("not explained: " + line)
-    return 1 if untold else 0
+    for name in lost:
+        print("docs/SWEEP.md names no edit: " + name)
+    return 1 if untold or lost else 0
