@@ -82,7 +82,7 @@ class Copy:
                     path = os.path.join(above, twin, file)
                     with open(path, encoding="utf-8") as h:
                         text = h.read()
-                    text = text.replace("." + name + ".", "." + twin + ".")
+                    text = re.sub(r"\.%s\.(?=[A-Z])" % name, "." + twin + ".", text)
                     spec = name.replace("_", "-") + "-spec"
                     text = re.sub(r"(?<![\w-])%s(?![\w-])" % re.escape(spec), twin.replace("_", "-") + "-spec", text)
                     with open(path, "w", encoding="utf-8") as h:

@@ -2,10 +2,10 @@
 import os
 import re
 
-from changes import KINDS
+from changes import KINDS, Body
 from ports import read_ports
 from results import Results
-from text import HERE, ROOT, libraries
+from text import HERE, ROOT, Crate, libraries, names_known, results_of_calls
 
 CLASSES = ["a fact fails", "proof unfit", "no error of its own", "accepted", "could not tell", "not a program"]
 
@@ -61,6 +61,23 @@ def unknown_edits(text):
     return out
 
 
+def left_over():
+    """How many changes of the present text are not judged yet, by kind."""
+    left, gives = {}, results_of_calls()
+    for name in libraries():
+        crate, rows = Crate(name), Results(name).rows
+        known = names_known(crate)
+        for f in crate.functions:
+            for c in Body(f, crate.files[f.file], known[f.file], gives).all():
+                other = c.kind in ("variable", "argument")
+                if Results.key(f.print, c) not in rows and not (other and (f.print, "0", "other types", "") in rows):
+                    left[c.kind] = left.get(c.kind, 0) + 1
+    if not left:
+        return ["Every change of the present text is tried."]
+    words = ["%d %s" % (left[k], k) for k in KINDS if k in left]
+    return ["Not tried yet: %s (of variables and arguments many are of another type, and no candidates)." % ", ".join(words)]
+
+
 def report():
     why, by_crate, by_kind, accepted, untold = reasons(), {}, {}, [], []
     for crate in libraries():
@@ -83,7 +100,7 @@ def report():
     for k in sorted(rows):
         label, _, verdict, words, _ = rows[k]
         ports.append("| %s | %s | %s | %s |" % (*k, words, verdict.replace("refused: ", "")))
-    tables = {"crates": count_table(by_crate), "kinds": count_table({k: by_kind[k] for k in KINDS if k in by_kind}), "accepted": equal, "ports": ports}
+    tables = {"left": left_over(), "crates": count_table(by_crate), "kinds": count_table({k: by_kind[k] for k in KINDS if k in by_kind}), "accepted": equal, "ports": ports}
     path = os.path.join(ROOT, "docs", "SWEEP.md")
     with open(path, encoding="utf-8") as h:
         text = h.read()
@@ -91,7 +108,7 @@ def report():
         text = re.sub(r"(<!-- %s -->\n).*?(<!-- end -->)" % name, lambda m: m.group(1) + "\n".join(lines) + "\n" + m.group(2), text, flags=re.S)
     with open(path, "w", encoding="utf-8") as h:
         h.write(text)
-    for line in tables["crates"]:
+    for line in tables["crates"] + tables["left"]:
         print(line)
     lost = unknown_edits(text)
     for line in untold:
