@@ -12,7 +12,7 @@ use lib.Count.{trailingZeros}
 use lib.Dec.{leb, eqb}
 use borrow.Author.Tests.{eq-eqb, ne-eqb, le-leb, lt-leb}
 use Rattle.sequence_number.proofs.Split.{split-lt}
-use Rattle.sequence_number.proofs.WidthLaws.{complement-bit, trailing-below, trailing-at}
+use Rattle.number_set.proofs.WidthLaws.{complement-bit, trailing-below, trailing-at}
 use Rattle.assembly_record.proofs.FragmentsLaws.{fragments-le, fragments-above}
 use Rattle.assembly_record.proofs.MarksLaws.{all-holds, all-lacks}
 use Rattle.assembly_record.proofs.WordsLaws.{marks-at, size-at}

@@ -12,7 +12,7 @@ use lib.Dec.{ltb, leb, eqb}
 use lib.Bits.{bitOr}
 use borrow.Author.Tests.{ltb-true, ltb-false, leb-true, leb-false, eqb-true, eqb-false, lt-ltb, le-ltb, ne-eqb}
 use Rattle.sequence_number.proofs.Split.{split}
-use Rattle.sequence_number.proofs.WidthLaws.{one-within, or-sets, set-has}
+use Rattle.number_set.proofs.WidthLaws.{one-within, or-sets, set-has}
 use Rattle.assembly_record.specs.Marks.{mark, markRun, marked, covers, all}
 
 pub length-run : (m : List ℕ) (k n : ℕ) → length (markRun m k n) ≡ length m

@@ -4,7 +4,7 @@ use mathlib.Core.Bool.{Bool, true, cond, _&&_}
 use mathlib.Core.List.{List, [], _∷_, _++_}
 use lib.ListN.{getD, set}
 use lib.Dec.{ltb, leb, eqb}
-use Rattle.sequence_number.specs.Bitmap.{withBit}
+use Rattle.number_set.specs.Bitmap.{withBit}
 
 -- whether bit j is set
 unfoldable pub marked : List ℕ → ℕ → Bool

@@ -7,8 +7,8 @@ use lib.ListN.{length}
 use lib.IntN.{ℤ, pos}
 use Rattle.sequence_number.specs.Outcome.{Outcome, refused, done}
 use Rattle.sequence_number.specs.Kind.{sequence, sequenceBytes}
-use Rattle.sequence_number.specs.NumberSet.{NumberSet, emptyAt}
-use Rattle.sequence_number.specs.Make.{makeSet}
+use Rattle.number_set.specs.NumberSet.{NumberSet, emptyAt}
+use Rattle.number_set.specs.Make.{makeSet}
 use Rattle.sequence_number.specs.declared.ByteOrder.the-variants.{Little}
 use Rattle.assembly_record.specs.Fragments.{fragments}
 use Rattle.fragment_assembler.specs.Refusal.{Call, callOf, refusal}

@@ -2,7 +2,7 @@
 use fragment_assembler::Answer;
 use fragment_assembler::Start;
 use sequence_number::ByteOrder;
-use sequence_number::set::SequenceNumberSet;
+use number_set::set::SequenceNumberSet;
 use writer_proxy::missing::Listing;
 ghost use mathlib.Core.Path.{_≡_};
 ghost use lib.ListN.{length};

@@ -5,8 +5,8 @@ use mathlib.Core.Path.{_≡_}
 use mathlib.Core.Bool.{Bool, cond}
 use mathlib.Core.List.{List}
 use Rattle.sequence_number.specs.Outcome.{Outcome, refused, done, refusal, left}
-use Rattle.sequence_number.specs.SetWire.{Taken}
-use Rattle.sequence_number.specs.NumberSet.{NumberSet}
+use Rattle.number_set.specs.SetWire.{Taken}
+use Rattle.number_set.specs.NumberSet.{NumberSet}
 use Rattle.sequence_number.specs.declared.ByteOrder.{ByteOrder}
 use Rattle.sequence_number.specs.declared.ByteOrder.the-variants.{Big, Little}
 

@@ -1,16 +1,16 @@
 // Number sets of both widths: read, written, made, walked, measured. A set goes in and out by its parts.
 use crate::numbers::order_of;
-use sequence_number::set::FragmentNumberSet;
-use sequence_number::set::Measured;
-use sequence_number::set::SequenceNumberSet;
-use sequence_number::set::Walked;
+use number_set::set::FragmentNumberSet;
+use number_set::set::Measured;
+use number_set::set::SequenceNumberSet;
+use number_set::set::Walked;
 use sequence_number::wire::Written;
 ghost use lib.ListN.{length};
 ghost use Rattle.sequence_number.specs.Kind.{sequence, fragment};
-ghost use Rattle.sequence_number.specs.NumberSet.{members};
-ghost use Rattle.sequence_number.specs.SetWire.{readSet, writeSet, setBytes, measureSet};
-ghost use Rattle.sequence_number.specs.Make.{makeSet};
-ghost use Rattle.sequence_number.specs.Walk.{walkSet, inOrder};
+ghost use Rattle.number_set.specs.NumberSet.{members};
+ghost use Rattle.number_set.specs.SetWire.{readSet, writeSet, setBytes, measureSet};
+ghost use Rattle.number_set.specs.Make.{makeSet};
+ghost use Rattle.number_set.specs.Walk.{walkSet, inOrder};
 ghost use Rattle.receiver.specs.Exports.{orderOf, Gives, Lends, setOf, takenOf};
 
 #[no_mangle]

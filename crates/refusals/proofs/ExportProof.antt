@@ -9,10 +9,10 @@ use Rattle.sequence_number.specs.Outcome.{Outcome, found, left}
 use Rattle.sequence_number.specs.Outcome as outcome
 use Rattle.sequence_number.specs.Kind.{Kind, sequence, fragment}
 use Rattle.sequence_number.specs.NumberWire.{readNumber, writeNumber}
-use Rattle.sequence_number.specs.SetWire.{readSet, writeSet, measureSet, setBytes}
-use Rattle.sequence_number.specs.NumberSet.{NumberSet, members}
-use Rattle.sequence_number.specs.Make.{makeSet}
-use Rattle.sequence_number.specs.Walk.{walkSet, inOrder}
+use Rattle.number_set.specs.SetWire.{readSet, writeSet, measureSet, setBytes}
+use Rattle.number_set.specs.NumberSet.{NumberSet, members}
+use Rattle.number_set.specs.Make.{makeSet}
+use Rattle.number_set.specs.Walk.{walkSet, inOrder}
 use Rattle.sequence_number.specs.Number.{numberOf}
 use Rattle.sequence_number.proofs.KindLaws.{Lawful, sequence-lawful, fragment-lawful}
 use Rattle.proxy_record.specs.Record.{recordOf, stateOf, Good}

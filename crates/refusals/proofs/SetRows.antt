@@ -12,17 +12,17 @@ use lib.Signed.{ltZ-yes, ltZ-no, clashℤ}
 use borrow.Author.Tests.{ltb-true, ltb-false}
 use Rattle.sequence_number.specs.Outcome.{Outcome, refusal, found}
 use Rattle.sequence_number.specs.Kind.{Kind, sequence, fragment}
-use Rattle.sequence_number.specs.Bitmap.{positions}
+use Rattle.number_set.specs.Bitmap.{positions}
 use Rattle.sequence_number.specs.Word.{wordAt}
 use Rattle.sequence_number.specs.NumberWire.{readNumber, writeNumber}
-use Rattle.sequence_number.specs.NumberSet.{NumberSet, members, bytesOf}
-use Rattle.sequence_number.specs.SetWire.{Taken, readSet, takenSet, setBytes, writeSet, measureSet}
-use Rattle.sequence_number.specs.Make.{risingTo, rising, makeSet}
-use Rattle.sequence_number.specs.Walk.{walkSet, anyPast, inOrder}
+use Rattle.number_set.specs.NumberSet.{NumberSet, members, bytesOf}
+use Rattle.number_set.specs.SetWire.{Taken, readSet, takenSet, setBytes, writeSet, measureSet}
+use Rattle.number_set.specs.Make.{risingTo, rising, makeSet}
+use Rattle.number_set.specs.Walk.{walkSet, anyPast, inOrder}
 use Rattle.sequence_number.specs.declared.ByteOrder.{ByteOrder}
 use Rattle.sequence_number.proofs.Split.{split, split-lt}
 use Rattle.sequence_number.proofs.KindLaws.{Lawful}
-use Rattle.sequence_number.proofs.SetWireLaws.{length-set-bytes}
+use Rattle.number_set.proofs.SetWireLaws.{length-set-bytes}
 use Rattle.refusals.specs.RefusalTable.{Row, Verdict, Exactly, verdict, numbered, Alone, readNumberRows, writeNumberRows, readSetRows, walkRows, writeSetRows, measureSetRows, makeSetRows, ReadNumber, WriteNumber, ReadSet, WalkSet, WriteSet, MeasureSet, MakeSet, PastSequence, PastFragment}
 use Rattle.refusals.proofs.RowLaws.{none-left, asks, asks-not, asks-less, positive, as-number, by-number, left-refused, and-true}
 

@@ -5,9 +5,9 @@ use Prim.Native.Nat.{ℕ}
 use Rattle.sequence_number.specs.Outcome.{Outcome, refused, done, refusal}
 use Rattle.sequence_number.specs.Kind.{sequence, fragment}
 use Rattle.sequence_number.specs.NumberWire.{readSequence, readFragment}
-use Rattle.sequence_number.specs.NumberSet.{NumberSet}
-use Rattle.sequence_number.specs.SetWire.{Taken, sequenceSetRead, fragmentSetRead}
-use Rattle.sequence_number.specs.Make.{sequenceSetMade, fragmentSetMade}
+use Rattle.number_set.specs.NumberSet.{NumberSet}
+use Rattle.number_set.specs.SetWire.{Taken, sequenceSetRead, fragmentSetRead}
+use Rattle.number_set.specs.Make.{sequenceSetMade, fragmentSetMade}
 use Rattle.sequence_number.proofs.KindLaws.{sequence-lawful, fragment-lawful}
 use Rattle.refusals.specs.RefusalTable.{Order, RefusalTable, shorter, notTaken, rangeRows, missingRows, PastSequence, PastFragment}
 use mathlib.Core.List.{[], _∷_}

@@ -13,10 +13,10 @@ use Rattle.sequence_number.specs.Outcome.{refusal}
 use Rattle.sequence_number.specs.Number.{numberOf}
 use Rattle.sequence_number.specs.Kind.{Kind, sequence, fragment}
 use Rattle.sequence_number.specs.NumberWire.{readNumber, writeNumber}
-use Rattle.sequence_number.specs.NumberSet.{NumberSet, members}
-use Rattle.sequence_number.specs.SetWire.{Taken, setBytes, readSet, writeSet, measureSet}
-use Rattle.sequence_number.specs.Make.{makeSet}
-use Rattle.sequence_number.specs.Walk.{walkSet, inOrder}
+use Rattle.number_set.specs.NumberSet.{NumberSet, members}
+use Rattle.number_set.specs.SetWire.{Taken, setBytes, readSet, writeSet, measureSet}
+use Rattle.number_set.specs.Make.{makeSet}
+use Rattle.number_set.specs.Walk.{walkSet, inOrder}
 use Rattle.proxy_record.specs.State.{begun}
 use Rattle.proxy_record.specs.Record.{recordOf, stateOf, Good}
 use Rattle.proxy_core.specs.Calls.{Reply, received, irrelevant, irrelevantRange, upTo}

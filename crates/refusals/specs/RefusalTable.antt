@@ -27,14 +27,14 @@ use Rattle.sequence_number.specs.Number.{numberOf}
 use Rattle.sequence_number.specs.Kind.{Kind, sequence, fragment}
 use Rattle.sequence_number.specs.Word.{wordAt}
 use Rattle.sequence_number.specs.NumberWire.{readSequence, readFragment, wrote, readNumber, Writes}
-use Rattle.sequence_number.specs.NumberSet.{NumberSet, members, bytesOf}
-use Rattle.sequence_number.specs.SetWire.{Taken, setBytes, readSet, sequenceSetRead, fragmentSetRead, measured, measureSet, WritesSet}
-use Rattle.sequence_number.specs.Make.{makeSet, sequenceSetMade, fragmentSetMade}
-use Rattle.sequence_number.specs.Walk.{walked, Walks}
+use Rattle.number_set.specs.NumberSet.{NumberSet, members, bytesOf}
+use Rattle.number_set.specs.SetWire.{Taken, setBytes, readSet, sequenceSetRead, fragmentSetRead, measured, measureSet, WritesSet}
+use Rattle.number_set.specs.Make.{makeSet, sequenceSetMade, fragmentSetMade}
+use Rattle.number_set.specs.Walk.{walked, Walks}
 use Rattle.sequence_number.specs.declared.ByteOrder.{ByteOrder}
 use Rattle.sequence_number.specs.declared.wire.Written.{Written}
-use Rattle.sequence_number.specs.declared.set.Measured.{Measured}
-use Rattle.sequence_number.specs.declared.set.Walked.{Walked}
+use Rattle.number_set.specs.declared.set.Measured.{Measured}
+use Rattle.number_set.specs.declared.set.Walked.{Walked}
 use Rattle.proxy_record.specs.State.{State, begun}
 use Rattle.proxy_record.specs.Record.{recordOf, stateOf, Good}
 use Rattle.proxy_core.specs.Calls.{reported, received, irrelevant, irrelevantRange, upTo}

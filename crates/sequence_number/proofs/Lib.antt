@@ -5,15 +5,4 @@ pub mod RunLaws
 pub mod WordLaws
 pub mod KindLaws
 pub mod NumberWireLaws
-pub mod WidthLaws
-pub mod BitLaws
-pub mod PositionLaws
-pub mod SetWireLaws
-pub mod WordBitLaws
-pub mod WalkLaws
-pub mod ClimbLaws
-pub mod FitLaws
-pub mod MakeLaws
-pub mod MemberLaws
-pub mod RoundTrip
 pub mod Determined

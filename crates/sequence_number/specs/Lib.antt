@@ -4,8 +4,3 @@ pub mod Number
 pub mod Word
 pub mod Kind
 pub mod NumberWire
-pub mod Bitmap
-pub mod NumberSet
-pub mod SetWire
-pub mod Make
-pub mod Walk

@@ -4,7 +4,7 @@ ghost use mir.Syntax.{w64};
 ghost use mir.Val.{ofZ, toZ};
 
 // The two's complement bits of n.
-pub(crate) fn bits_of(n: i64) -> u64
+pub fn bits_of(n: i64) -> u64
     ensures { λ r. ⌜ r ≡ ofZ w64 n ⌝ }
 {
     if n < 0 { !((!n) as u64) } else { n as u64 }

@@ -28,7 +28,7 @@ pub enum Written {
 }
 
 // The sequence number that starts at a place.
-pub(crate) fn sequence_at(o: ByteOrder, s: &[u8], at: usize) -> i64
+pub fn sequence_at(o: ByteOrder, s: &[u8], at: usize) -> i64
     requires { ⌜ at + 8 ≤ length (now s) ⌝ }
     ensures { λ r. ⌜ r ≡ sequenceAt o (now (s .entry)) at ⌝ }
 {
@@ -38,7 +38,7 @@ pub(crate) fn sequence_at(o: ByteOrder, s: &[u8], at: usize) -> i64
 }
 
 // A sequence number to a place.
-pub(crate) fn sequence_to(o: ByteOrder, n: i64, out: &mut [u8], at: usize)
+pub fn sequence_to(o: ByteOrder, n: i64, out: &mut [u8], at: usize)
     requires { ⌜ at + 8 ≤ length (now out) ⌝ }
     ensures { λ _. ⌜ now (out .exit) ≡ sets (now (out .entry)) at (sequenceBytes o n) ⌝ }
 {

@@ -25,7 +25,7 @@ fn word_of(o: ByteOrder, a: u8, b: u8, c: u8, d: u8) -> u32
 }
 
 // The word that starts at a place.
-pub(crate) fn read_word(o: ByteOrder, s: &[u8], at: usize) -> u32
+pub fn read_word(o: ByteOrder, s: &[u8], at: usize) -> u32
     requires { ⌜ at + 4 ≤ length (now s) ⌝ }
     ensures { λ r. ⌜ r ≡ wordAt o (now (s .entry)) at ⌝ }
 {
@@ -44,7 +44,7 @@ fn put4(out: &mut [u8], at: usize, a: u8, b: u8, c: u8, d: u8)
 }
 
 // A word to a place.
-pub(crate) fn write_word(o: ByteOrder, v: u32, out: &mut [u8], at: usize)
+pub fn write_word(o: ByteOrder, v: u32, out: &mut [u8], at: usize)
     requires { ⌜ at + 4 ≤ length (now out) ⌝ }
     ensures { λ _. ⌜ now (out .exit) ≡ sets (now (out .entry)) at (wordBytes o v) ⌝ }
 {

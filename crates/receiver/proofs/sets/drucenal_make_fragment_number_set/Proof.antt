@@ -4,11 +4,11 @@ use Prim.Native.Nat.{ℕ}
 use Rattle.receiver.proofs.SetAnswers.{fragment-made-number}
 use Rattle.receiver.proofs.ExportLaws.{struct-refused, struct-done}
 use Rattle.receiver.specs.Exports.{setOf}
-use Rattle.sequence_number.proofs.MakeLaws.{make-numbered}
-use Rattle.sequence_number.specs.Make.{makeSet, fragmentSetMade}
-use Rattle.sequence_number.specs.NumberSet.{NumberSet}
+use Rattle.number_set.proofs.MakeLaws.{make-numbered}
+use Rattle.number_set.specs.Make.{makeSet, fragmentSetMade}
+use Rattle.number_set.specs.NumberSet.{NumberSet}
 use Rattle.sequence_number.specs.Kind.{fragment}
-use Rattle.sequence_number.specs.declared.set.FragmentNumberSetMade.{FragmentNumberSetMade}
+use Rattle.number_set.specs.declared.set.FragmentNumberSetMade.{FragmentNumberSetMade}
 use mathlib.Core.Path.{refl}
 use borrow.Author.Needs.{needs}
 use Rattle.receiver.proofs.sets.drucenal_make_fragment_number_set.Statement.{statement}

@@ -3,11 +3,11 @@
 use Rattle.receiver.proofs.SetAnswers.{sequence-made-number}
 use Rattle.receiver.proofs.ExportLaws.{struct-refused, struct-done}
 use Rattle.receiver.specs.Exports.{setOf}
-use Rattle.sequence_number.proofs.MakeLaws.{make-numbered}
-use Rattle.sequence_number.specs.Make.{makeSet, sequenceSetMade}
-use Rattle.sequence_number.specs.NumberSet.{NumberSet}
+use Rattle.number_set.proofs.MakeLaws.{make-numbered}
+use Rattle.number_set.specs.Make.{makeSet, sequenceSetMade}
+use Rattle.number_set.specs.NumberSet.{NumberSet}
 use Rattle.sequence_number.specs.Kind.{sequence}
-use Rattle.sequence_number.specs.declared.set.SequenceNumberSetMade.{SequenceNumberSetMade}
+use Rattle.number_set.specs.declared.set.SequenceNumberSetMade.{SequenceNumberSetMade}
 use mir.Facts.{toZ-ofZ}
 use lib.IntN.{ℤ}
 use mathlib.Core.Path.{refl, ap, _∙_}

@@ -4,10 +4,10 @@ use Prim.Native.Nat.{ℕ}
 use Rattle.receiver.proofs.SetAnswers.{fragment-read-number}
 use Rattle.receiver.proofs.ExportLaws.{struct-refused, struct-done}
 use Rattle.receiver.specs.Exports.{orderOf, takenOf}
-use Rattle.sequence_number.proofs.SetWireLaws.{read-numbered}
-use Rattle.sequence_number.specs.SetWire.{Taken, readSet, fragmentSetRead}
+use Rattle.number_set.proofs.SetWireLaws.{read-numbered}
+use Rattle.number_set.specs.SetWire.{Taken, readSet, fragmentSetRead}
 use Rattle.sequence_number.specs.Kind.{fragment}
-use Rattle.sequence_number.specs.declared.set.FragmentNumberSetRead.{FragmentNumberSetRead}
+use Rattle.number_set.specs.declared.set.FragmentNumberSetRead.{FragmentNumberSetRead}
 use Rattle.sequence_number.specs.declared.ByteOrder.{ByteOrder}
 use mathlib.Core.Path.{refl, ap, _∙_}
 use borrow.Author.Needs.{needs}

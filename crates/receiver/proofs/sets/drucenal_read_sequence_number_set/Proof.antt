@@ -3,10 +3,10 @@
 use Rattle.receiver.proofs.SetAnswers.{sequence-read-number}
 use Rattle.receiver.proofs.ExportLaws.{struct-refused, struct-done}
 use Rattle.receiver.specs.Exports.{orderOf, takenOf}
-use Rattle.sequence_number.proofs.SetWireLaws.{read-numbered}
-use Rattle.sequence_number.specs.SetWire.{Taken, readSet, sequenceSetRead}
+use Rattle.number_set.proofs.SetWireLaws.{read-numbered}
+use Rattle.number_set.specs.SetWire.{Taken, readSet, sequenceSetRead}
 use Rattle.sequence_number.specs.Kind.{sequence}
-use Rattle.sequence_number.specs.declared.set.SequenceNumberSetRead.{SequenceNumberSetRead}
+use Rattle.number_set.specs.declared.set.SequenceNumberSetRead.{SequenceNumberSetRead}
 use Rattle.sequence_number.specs.declared.ByteOrder.{ByteOrder}
 use mir.Facts.{toZ-ofZ}
 use lib.IntN.{ℤ}

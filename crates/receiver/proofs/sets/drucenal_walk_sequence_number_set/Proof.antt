@@ -2,8 +2,8 @@
 -- Assumes nothing.
 use Rattle.receiver.proofs.ExportLaws.{gives-refused, gives-done, lends-refused, lends-done}
 use Rattle.receiver.specs.Exports.{setOf}
-use Rattle.sequence_number.specs.Walk.{walked, walkSet, inOrder}
-use Rattle.sequence_number.specs.NumberSet.{members}
+use Rattle.number_set.specs.Walk.{walked, walkSet, inOrder}
+use Rattle.number_set.specs.NumberSet.{members}
 use Rattle.sequence_number.specs.Kind.{sequence}
 use mir.Facts.{toZ-ofZ}
 use lib.IntN.{ℤ}

@@ -1,0 +1,12 @@
+pub mod WidthLaws
+pub mod BitLaws
+pub mod PositionLaws
+pub mod SetWireLaws
+pub mod WordBitLaws
+pub mod WalkLaws
+pub mod ClimbLaws
+pub mod FitLaws
+pub mod MakeLaws
+pub mod MemberLaws
+pub mod RoundTrip
+pub mod Determined

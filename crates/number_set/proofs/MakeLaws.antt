@@ -1,0 +1,158 @@
+-- Laws of `specs/Make.antt`, over the kind of number: each turn and each answer of making a set. Assumes nothing.
+use Prim.Native.Nat.{ℕ, zero, suc, _+_, _-_, _<_, _≤_}
+use mathlib.Core.Path.{_≡_, refl, ap, _∙_, sym, subst}
+use mathlib.Core.Logic.{⊎-elim}
+use mathlib.Core.Bool.{Bool, true, false, cond, _&&_}
+use mathlib.Core.List.{List, [], _∷_}
+use native.Mathlib.Omega.{arith}
+use native.Mathlib.Decide.{decLt}
+use native.Mathlib.Numerals.{add-one}
+use native.Mathlib.Nat.{add-zero, add-suc}
+use lib.ListN.{length, getD}
+use lib.Dec.{T}
+use borrow.Author.Tests.{lt-ltb, le-ltb, le-leb, lt-leb}
+use Rattle.sequence_number.specs.Outcome.{Outcome, refused, done}
+use Rattle.sequence_number.specs.Kind.{Kind}
+use Rattle.number_set.specs.Bitmap.{setBit}
+use Rattle.number_set.specs.NumberSet.{NumberSet, emptyAt}
+use Rattle.number_set.specs.Make.{risingTo, rising, smaller, spanned, markedTo, setFrom, setOver, makeSet}
+use Rattle.sequence_number.proofs.Split.{split, split-lt}
+use Rattle.sequence_number.proofs.KindLaws.{Lawful}
+
+and-false : (b : Bool) → (b && false) ≡ false
+and-false true = refl
+and-false false = refl
+
+and-left : (a b : Bool) → (a && b) ≡ true → a ≡ true
+and-left true b e = refl
+and-left false b e = absurd (subst T (sym e) tt)
+
+and-right : (a b : Bool) → (a && b) ≡ true → b ≡ true
+and-right true b e = e
+and-right false b e = absurd (subst T (sym e) tt)
+
+-- ---- rising lists
+
+module _ {A : Type 0} (below : A → A → Bool) (d : A) (xs : List A) where
+  pub rising-more : (i : ℕ) → risingTo below d xs i ≡ true → below (getD xs i d) (getD xs (i + 1) d) ≡ true → risingTo below d xs (i + 1) ≡ true
+  rising-more i p q =
+      ap (risingTo below d xs) (add-one i)
+      ∙ (λ j. p j && below (getD xs i d) (getD xs (sym (add-one i) j) d))
+      ∙ q
+
+  stays : (i k : ℕ) → risingTo below d xs i ≡ false → risingTo below d xs (i + k) ≡ false
+  stays i zero p = ap (risingTo below d xs) (add-zero i) ∙ p
+  stays i (suc k) p =
+      ap (risingTo below d xs) (add-suc i k)
+      ∙ ap (λ (b : Bool). b && below (getD xs (i + k) d) (getD xs (suc (i + k)) d)) (stays i k p)
+
+  -- where one step does not rise, the list does not
+  pub rising-stops : (i n : ℕ) → i < n → below (getD xs i d) (getD xs (i + 1) d) ≡ false → risingTo below d xs n ≡ false
+  rising-stops i n h q =
+      let e : (i + 1) + (n - (i + 1)) ≡ n = omega arith in
+      let s : risingTo below d xs (i + 1) ≡ false =
+      ap (risingTo below d xs) (add-one i)
+      ∙ (λ j. risingTo below d xs i && below (getD xs i d) (getD xs (sym (add-one i) j) d))
+      ∙ ap (λ (b : Bool). risingTo below d xs i && b) q
+      ∙ and-false (risingTo below d xs i) in
+      ap (risingTo below d xs) (sym e) ∙ stays (i + 1) (n - (i + 1)) s
+
+module _ (k : Kind) (law : Lawful k) where
+  -- a rising list is nowhere below its first
+  first-least : (xs : List (k .Number)) (n : ℕ) → risingTo (k .below) (k .nought) xs n ≡ true → (j : ℕ) → j ≤ n
+      → law .rank (getD xs 0 (k .nought)) ≤ law .rank (getD xs j (k .nought))
+  first-least xs zero r j h =
+      let e : j ≡ 0 = omega arith in
+      subst (λ (i : ℕ). law .rank (getD xs 0 (k .nought)) ≤ law .rank (getD xs i (k .nought))) (sym e) (omega arith)
+  first-least xs (suc n) r j h =
+      go (first-least xs n (and-left (risingTo (k .below) (k .nought) xs n) (k .below (getD xs n (k .nought)) (getD xs (suc n) (k .nought))) r)) (decLt n j)
+    where
+      go : ((i : ℕ) → i ≤ n → law .rank (getD xs 0 (k .nought)) ≤ law .rank (getD xs i (k .nought))) → Dec (n < j)
+          → law .rank (getD xs 0 (k .nought)) ≤ law .rank (getD xs j (k .nought))
+      go before (no f) = before j (omega arith)
+      go before (yes p) =
+          let e : j ≡ suc n = omega arith in
+          let a = before n (omega arith) in
+          let b = law .rank-below (getD xs n (k .nought)) (getD xs (suc n) (k .nought))
+          (and-right (risingTo (k .below) (k .nought) xs n) (k .below (getD xs n (k .nought)) (getD xs (suc n) (k .nought))) r) in
+          subst (λ (i : ℕ). law .rank (getD xs 0 (k .nought)) ≤ law .rank (getD xs i (k .nought))) (sym e) (omega arith)
+
+  smaller-least : (base x : k .Number) → law .rank (smaller k base x) ≤ law .rank x
+  smaller-least base x =
+      split (k .below x base) (λ e. rw e (omega arith)) (λ e. rw e (law .rank-above base x e))
+
+  -- no element is below the lower of base and first
+  pub none-below : (base : k .Number) (xs : List (k .Number)) → rising k xs ≡ true → (low : k .Number) → low ≡ smaller k base (getD xs 0 (k .nought))
+      → (j : ℕ) → j < length xs → law .rank low ≤ law .rank (getD xs j (k .nought))
+  none-below base xs r low l j h =
+      let a = first-least xs (length xs - 1) r j (omega arith) in
+      let b = smaller-least base (getD xs 0 (k .nought)) in
+      subst (λ (x : k .Number). law .rank x ≤ law .rank (getD xs j (k .nought))) (sym l) (omega arith)
+
+  -- the answers of the test
+  pub rising-short : (xs : List (k .Number)) → length xs ≡ 0 → true ≡ rising k xs
+  rising-short xs h =
+      let e : length xs - 1 ≡ 0 = omega arith in
+      sym (ap (risingTo (k .below) (k .nought) xs) e)
+
+  pub rising-ends : (xs : List (k .Number)) (i : ℕ) → i ≡ length xs - 1 → risingTo (k .below) (k .nought) xs i ≡ true → true ≡ rising k xs
+  rising-ends xs i e r = sym (ap (risingTo (k .below) (k .nought) xs) (sym e) ∙ r)
+
+-- ---- marking
+
+-- a turn of the loop that marks
+module _ {A : Type 0} (place : A → ℕ) (d : A) (xs : List A) (count : ℕ) where
+  pub mark-yes : (j : ℕ) (ws : List ℕ) → ws ≡ markedTo place d xs count j → place (getD xs j d) < count
+      → setBit ws (place (getD xs j d)) ≡ markedTo place d xs count (j + 1)
+  mark-yes j ws e h =
+      ap (λ (v : List ℕ). setBit v (place (getD xs j d))) e
+      ∙ sym (ap (λ (b : Bool). cond b (setBit (markedTo place d xs count j) (place (getD xs j d))) (markedTo place d xs count j)) (lt-ltb (place (getD xs j d)) count h))
+      ∙ ap (markedTo place d xs count) (sym (add-one j))
+
+  pub mark-no : (j : ℕ) (ws : List ℕ) → ws ≡ markedTo place d xs count j → count ≤ place (getD xs j d)
+      → ws ≡ markedTo place d xs count (j + 1)
+  mark-no j ws e h =
+      e
+      ∙ sym (ap (λ (b : Bool). cond b (setBit (markedTo place d xs count j) (place (getD xs j d))) (markedTo place d xs count j)) (le-ltb (place (getD xs j d)) count h))
+      ∙ ap (markedTo place d xs count) (sym (add-one j))
+
+pub spanned-small : (away : ℕ) → spanned away ≤ 256
+spanned-small away = ⊎-elim (λ h. rw (lt-leb 256 away h) (omega arith)) (λ h. rw (le-leb 256 away h) (omega arith)) (split-lt away 256)
+
+-- ---- what making answers, by the tests that the code makes
+
+module _ (k : Kind) {A : Type 0} (answer : Outcome (NumberSet (k .Number)) → A) (base : k .Number) where
+  pub make-falls : (xs : List (k .Number)) → rising k xs ≡ false → answer (refused 15) ≡ answer (makeSet k base xs)
+  make-falls xs r = rw r
+
+  pub make-empty : (xs : List (k .Number)) → rising k xs ≡ true → length xs ≡ 0 → answer (done (emptyAt base)) ≡ answer (makeSet k base xs)
+  make-empty [] r e = refl
+  make-empty (x ∷ xs) r e = absurd (omega arith)
+
+  pub make-low : (xs : List (k .Number)) → rising k xs ≡ true → (length xs ≡ 0 → ⊥) → (low : k .Number) → low ≡ smaller k base (getD xs 0 (k .nought))
+      → k .below low (k .least) ≡ true → answer (done (emptyAt (k .least))) ≡ answer (makeSet k base xs)
+  make-low [] r ne low l b = absurd (ne refl)
+  make-low (x ∷ xs) r ne low l b =
+      let c : k .below (smaller k base x) (k .least) ≡ true = sym (ap (λ (y : k .Number). k .below y (k .least)) l) ∙ b in
+      rw (r, c)
+
+  pub make-span : (xs : List (k .Number)) → rising k xs ≡ true → (length xs ≡ 0 → ⊥) → (low : k .Number) → low ≡ smaller k base (getD xs 0 (k .nought))
+      → k .below low (k .least) ≡ false → (count : ℕ) (ws : List ℕ) → count ≡ spanned (k .apart low (getD xs (length xs - 1) (k .nought)))
+      → ws ≡ markedTo (k .apart low) (k .nought) xs count (length xs)
+      → answer (done (record { base = low; count = count; words = ws })) ≡ answer (makeSet k base xs)
+  make-span [] r ne low l b count ws c m = absurd (ne refl)
+  make-span (x ∷ xs) r ne low l b count ws c m =
+      let b′ : k .below (smaller k base x) (k .least) ≡ false = sym (ap (λ (y : k .Number). k .below y (k .least)) l) ∙ b in
+      let last : suc (length xs) - 1 ≡ length xs = omega arith in
+      rw (r, b′)
+      (ap (λ (v : List ℕ). answer (done (record { base = low; count = count; words = v }))) m
+      ∙ ap (λ (n : ℕ). answer (done (record { base = low; count = n; words = markedTo (k .apart low) (k .nought) (x ∷ xs) n (length (x ∷ xs)) }))) c
+      ∙ (λ i. answer (done (setFrom k (l i) (getD (x ∷ xs) (last i) (k .nought)) (x ∷ xs)))))
+
+-- a refusal has its number: it is never 0
+pub make-numbered : (k : Kind) (base : k .Number) (xs : List (k .Number)) → makeSet k base xs ≡ refused 0 → ⊥
+make-numbered k base xs e = go (rising k xs) e
+  where
+    go : (b : Bool) → cond b (done (setOver k base xs)) (refused 15) ≡ refused 0 → ⊥
+    go true e = let z : _≡_ {A = ℕ} 0 1 = cc in omega arith
+    go false e = let z : _≡_ {A = ℕ} 15 0 = cc in omega arith

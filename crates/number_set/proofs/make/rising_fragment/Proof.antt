@@ -1,0 +1,82 @@
+-- `number_set::make::rising_fragment` meets its contract: the first i elements rise.
+-- Assumes nothing.
+use Rattle.number_set.proofs.MakeLaws.{rising-more, rising-stops, rising-short, rising-ends}
+use Rattle.sequence_number.proofs.KindLaws.{fragment-lawful}
+use Rattle.number_set.specs.Make.{risingTo}
+use Rattle.sequence_number.specs.Kind.{fragment}
+use borrow.Author.Tests.{lt-ltb, le-ltb}
+use lib.ListN.{length}
+use native.Mathlib.Omega.{arith}
+use mathlib.Core.Bool.{true}
+use mathlib.Core.Path.{_≡_, refl, sym}
+use Prim.Native.Nat.{_-_, _≤_}
+use borrow.Author.Needs.{needs}
+use Rattle.number_set.proofs.make.rising_fragment.Statement.{statement}
+use Rattle.number_set.proofs.make.rising_fragment.Tie as tie
+
+abbrev Inv-loop : tie.InvT-loop
+Inv-loop list n i₀ i = (i ≤ n) × (risingTo (fragment .below) (fragment .nought) list i ≡ true)
+
+abbrev μ-loop : tie.MeasureT-loop
+μ-loop list n i₀ i = n - i
+
+returns : tie.Need-returns Inv-loop μ-loop
+returns c = rising-short fragment fragment-lawful (c .before .args .list .now) (c .if1 .taken)
+
+sub-n : tie.Need-sub-n Inv-loop μ-loop
+sub-n c = search needs
+
+loop-holds : tie.Need-loop-holds Inv-loop μ-loop
+loop-holds c = (search needs, refl)
+
+mul-a : tie.Need-mul-a Inv-loop μ-loop
+mul-a c = search needs
+
+shared-slice-read-a : tie.Need-shared-slice-read-a Inv-loop μ-loop
+shared-slice-read-a c = search needs
+
+add-b : tie.Need-add-b Inv-loop μ-loop
+add-b c = search needs
+
+mul-b : tie.Need-mul-b Inv-loop μ-loop
+mul-b c = search needs
+
+shared-slice-read-b : tie.Need-shared-slice-read-b Inv-loop μ-loop
+shared-slice-read-b c = search needs
+
+add-i : tie.Need-add-i Inv-loop μ-loop
+add-i c = search needs
+
+loop-less : tie.Need-loop-less Inv-loop μ-loop
+loop-less c = search needs
+
+loop-again : tie.Need-loop-again Inv-loop μ-loop
+loop-again c = (omega arith, rising-more (fragment .below) (fragment .nought) (c .before .before .before .before .before .before .args .list .now) (c .before .before .before .before .loop .i) (c .before .before .before .before .loop .inv .1) (lt-ltb _ _ (c .if2 .taken)))
+
+returns-2 : tie.Need-returns-2 Inv-loop μ-loop
+returns-2 c =
+    let xs = c .before .before .before .before .before .before .args .list .now in
+    sym (rising-stops (fragment .below) (fragment .nought) xs (c .before .before .before .before .loop .i) (length xs - 1) (c .before .before .before .loop-test .taken) (le-ltb _ _ (c .if2 .left)))
+
+returns-3 : tie.Need-returns-3 Inv-loop μ-loop
+returns-3 c = rising-ends fragment fragment-lawful (c .before .before .before .args .list .now) (c .before .loop .i) (omega arith) (c .before .loop .inv .1)
+
+pub rising-fragment-spec : {M : Type 1} → statement M
+rising-fragment-spec =
+    tie.close
+    (tie.spec
+    Inv-loop
+    μ-loop
+    returns
+    sub-n
+    loop-holds
+    mul-a
+    shared-slice-read-a
+    add-b
+    mul-b
+    shared-slice-read-b
+    add-i
+    loop-less
+    loop-again
+    returns-2
+    returns-3)

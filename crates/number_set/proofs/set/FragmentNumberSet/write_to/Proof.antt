@@ -1,0 +1,59 @@
+-- `number_set::set::FragmentNumberSet::write_to` meets its contract: the base, and then the count and its words, are one run.
+-- Assumes nothing.
+use Rattle.number_set.proofs.SetWireLaws.{wrote-means, set-not-written, set-written}
+use Rattle.sequence_number.proofs.KindLaws.{fragment-lawful}
+use Rattle.number_set.specs.NumberSet.{fragmentSet}
+use Rattle.sequence_number.specs.Kind.{fragment}
+use lib.ListN.{length}
+use native.Mathlib.Omega.{arith}
+use borrow.Author.Needs.{needs}
+use Rattle.number_set.proofs.set.FragmentNumberSet.write_to.Statement.{statement}
+use Rattle.number_set.proofs.set.FragmentNumberSet.write_to.Tie as tie
+
+write-room-requires : tie.Need-write-room-requires
+write-room-requires c κs = search needs
+
+enum-known-n : tie.Need-enum-known-n
+enum-known-n c = search needs
+
+enum-known-n-2 : tie.Need-enum-known-n-2
+enum-known-n-2 c = search needs
+
+write-word-requires : tie.Need-write-word-requires
+write-word-requires c κs =
+    let a = c .before .before .before .before .before .before .before .args in
+    let m = wrote-means 4 (a .self .count) (length (a .out .now)) _ (c .before .before .n2 .given .1) (c .before .before .before .before .write-room .ensures) in
+    omega arith
+
+write-bits-requires : tie.Need-write-bits-requires
+write-bits-requires c κs =
+    let a = c .before .before .before .before .before .before .before .before .before .before .before .args in
+    let m = wrote-means 4 (a .self .count) (length (a .out .now)) _ (c .before .before .before .before .before .before .n2 .given .1) (c .before .before .before .before .before .before .before .before .write-room .ensures) in
+    (m .0, omega (arith, c .before .before .before .write-word .kept .1 .1 .0))
+
+returns : tie.Need-returns
+returns c =
+    let a = c .before .before .before .before .before .before .args in
+    set-not-written fragment fragment-lawful (a .o) (fragmentSet (a .self)) (a .out .now) _ (c .before .n .given .1) (c .before .before .before .write-room .ensures)
+
+same-length : tie.Need-same-length
+same-length c = search needs
+
+returns-2 : tie.Need-returns-2
+returns-2 c =
+    let a = c .before .before .before .before .before .before .before .before .before .before .before .before .before .before .args in
+    set-written fragment fragment-lawful (a .o) (fragmentSet (a .self)) (a .out .now) _ (c .before .before .before .before .before .before .before .before .before .n2 .given .1) (c .before .before .before .before .before .before .before .before .before .before .before .write-room .ensures)
+    (c .before .before .before .before .before .before .write-word .last .1 .1 .0) (c .before .before .write-bits .last .1 .1 .1 .0) (c .before .before .before .before .before .before .write-word .ensures) (c .before .before .write-bits .ensures)
+
+pub write-to-spec : {M : Type 1} → statement M
+write-to-spec =
+    tie.close
+    (tie.spec
+    write-room-requires
+    enum-known-n
+    enum-known-n-2
+    write-word-requires
+    write-bits-requires
+    returns
+    same-length
+    returns-2)

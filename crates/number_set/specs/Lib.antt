@@ -1,0 +1,5 @@
+pub mod Bitmap
+pub mod NumberSet
+pub mod SetWire
+pub mod Make
+pub mod Walk

@@ -1,0 +1,66 @@
+-- "Making a set from a base and a strictly rising list". Assumes nothing.
+use Prim.Native.Nat.{ℕ, zero, suc, _+_, _-_}
+use mathlib.Core.Bool.{Bool, true, cond, _&&_}
+use mathlib.Core.List.{List, [], _∷_}
+use lib.ListN.{length, getD}
+use lib.Dec.{ltb, leb}
+use lib.IntN.{ℤ, pos}
+use Rattle.sequence_number.specs.Outcome.{Outcome, refused, done}
+use Rattle.sequence_number.specs.Kind.{Kind}
+use Rattle.number_set.specs.Bitmap.{setBit}
+use Rattle.number_set.specs.NumberSet.{NumberSet, noWords, emptyAt}
+use Rattle.number_set.specs.declared.set.SequenceNumberSetMade.{SequenceNumberSetMade}
+use Rattle.number_set.specs.declared.set.FragmentNumberSetMade.{FragmentNumberSetMade}
+
+-- whether each of the first n elements is below the next
+abbrev pub risingTo : {A : Type 0} → (A → A → Bool) → A → List A → ℕ → Bool
+risingTo below d xs zero = true
+risingTo below d xs (suc n) = risingTo below d xs n && below (getD xs n d) (getD xs (suc n) d)
+
+abbrev pub rising : (k : Kind) → List (k .Number) → Bool
+rising k xs = risingTo (k .below) (k .nought) xs (length xs - 1)
+
+-- "base becomes the smaller of base and first element"
+abbrev pub smaller : (k : Kind) → k .Number → k .Number → k .Number
+smaller k a b = cond (k .below b a) b a
+
+-- "if last - base >= 256, last becomes base + 255. Count is last - base + 1"
+abbrev pub spanned : ℕ → ℕ
+spanned away = cond (leb 256 away) 256 (away + 1)
+
+-- "list members through last are set": those of the first n elements whose place is below the count
+abbrev pub markedTo : {A : Type 0} → (A → ℕ) → A → List A → ℕ → ℕ → List ℕ
+markedTo place d xs count zero = noWords
+markedTo place d xs count (suc n) =
+    cond (ltb (place (getD xs n d)) count) (setBit (markedTo place d xs count n) (place (getD xs n d))) (markedTo place d xs count n)
+
+-- the set from low through last
+abbrev pub setFrom : (k : Kind) → k .Number → k .Number → List (k .Number) → NumberSet (k .Number)
+setFrom k low last xs =
+    record {
+      base = low;
+      count = spanned (k .apart low last);
+      words = markedTo (k .apart low) (k .nought) xs (spanned (k .apart low last)) (length xs);
+    }
+
+-- "base below 1 then gives the empty set at 1; else .."
+abbrev pub setAbove : (k : Kind) → k .Number → k .Number → List (k .Number) → NumberSet (k .Number)
+setAbove k low last xs = cond (k .below low (k .least)) (emptyAt (k .least)) (setFrom k low last xs)
+
+-- "an empty list gives the empty set at that base, whatever it is"
+abbrev pub setOver : (k : Kind) → k .Number → List (k .Number) → NumberSet (k .Number)
+setOver k base [] = emptyAt base
+setOver k base (x ∷ xs) = setAbove k (smaller k base x) (getD (x ∷ xs) (length xs) (k .nought)) (x ∷ xs)
+
+-- "Making: 15" where the list does not rise strictly
+abbrev pub makeSet : (k : Kind) → k .Number → List (k .Number) → Outcome (NumberSet (k .Number))
+makeSet k base xs = cond (rising k xs) (done (setOver k base xs)) (refused 15)
+
+-- the answers of making: a refusal has the empty set at 0
+abbrev pub sequenceSetMade : Outcome (NumberSet ℤ) → SequenceNumberSetMade
+sequenceSetMade (refused n) = record { refusal = n; set = record { base = pos 0; count = 0; words = noWords } }
+sequenceSetMade (done s) = record { refusal = 0; set = record { base = s .base; count = s .count; words = s .words } }
+
+abbrev pub fragmentSetMade : Outcome (NumberSet ℕ) → FragmentNumberSetMade
+fragmentSetMade (refused n) = record { refusal = n; set = record { base = 0; count = 0; words = noWords } }
+fragmentSetMade (done s) = record { refusal = 0; set = record { base = s .base; count = s .count; words = s .words } }

@@ -1,0 +1,40 @@
+-- A number set: base, bit count, words. Assumes nothing.
+use Prim.Native.Nat.{ℕ, _+_, _*_, _/_}
+use mathlib.Core.List.{List, map}
+use lib.ListN.{replicate}
+use lib.IntN.{ℤ}
+use Rattle.sequence_number.specs.Kind.{Kind}
+use Rattle.number_set.specs.Bitmap.{positions}
+use Rattle.number_set.specs.declared.set.SequenceNumberSet.{SequenceNumberSet}
+use Rattle.number_set.specs.declared.set.FragmentNumberSet.{FragmentNumberSet}
+
+pub record NumberSet (N : Type 0) : Type 0 where
+  pub base : N
+  pub count : ℕ
+  pub words : List ℕ
+
+-- the code's two structs are such sets
+abbrev pub sequenceSet : SequenceNumberSet → NumberSet ℤ
+sequenceSet s = record { base = s .base; count = s .count; words = s .words }
+
+abbrev pub fragmentSet : FragmentNumberSet → NumberSet ℕ
+fragmentSet s = record { base = s .base; count = s .count; words = s .words }
+
+-- "Words held by value number eight"
+abbrev pub noWords : List ℕ
+noWords = replicate 8 0
+
+abbrev pub emptyAt : {N : Type 0} → N → NumberSet N
+emptyAt base = record { base = base; count = 0; words = noWords }
+
+-- "Bit i .. stands for base + i": the members, rising. Unused bits of the last word and words past the count are not looked at
+abbrev pub members : (k : Kind) → NumberSet (k .Number) → List (k .Number)
+members k s = map (k .plus (s .base)) (positions (s .words) (s .count))
+
+-- "ceil(count / 32) words"
+abbrev pub wordCount : ℕ → ℕ
+wordCount count = (count + 31) / 32
+
+-- "Length is 8 (sequence) or 4 (fragment), plus 4, plus 4 for each word": with a base of so many bytes
+abbrev pub bytesOf : ℕ → ℕ → ℕ
+bytesOf size count = size + 4 + 4 * wordCount count
