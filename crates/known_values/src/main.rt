@@ -1,8 +1,8 @@
 // Document 01's "Known values at the edges" that are not in the table, and its "Easy errors", run and written out.
 use fragment_assembler::Answer;
 use fragment_assembler::Start;
-use sequence_number::ByteOrder;
 use number_set::set::SequenceNumberSet;
+use sequence_number::ByteOrder;
 use writer_proxy::missing::Listing;
 ghost use mathlib.Core.Path.{_≡_};
 ghost use lib.ListN.{length};

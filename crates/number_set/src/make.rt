@@ -1,10 +1,10 @@
 // Making a set from a base and a strictly rising list, which stands for the Rust's BTreeSet.
 use crate::bitmap::with_mask;
-use sequence_number::number::natural;
 use crate::set::FragmentNumberSet;
 use crate::set::FragmentNumberSetMade;
 use crate::set::SequenceNumberSet;
 use crate::set::SequenceNumberSetMade;
+use sequence_number::number::natural;
 ghost use mathlib.Core.Path.{_≡_};
 ghost use Prim.Native.Nat.{ℕ, _-_, _≤_, _<_};
 ghost use lib.ListN.{length, getD};
