@@ -153,7 +153,7 @@ pub set-up-leaves : (w : List ℕ) (f : ℕ) (reliable : Bool) (p : ℕ) (r : St
     → startedOf r ≡ done tt → Good w′
 set-up-leaves = set-up-record
 
--- "at most 128 in assembly after a call", and no number stands at two places
+-- at most 128 are in assembly after a call, and no number stands at two places
 pub after-a-call : (a : Assembler) (area : List ℕ) (c : Call) → Ok a
     → (count (fragment a area c .state .places) ≤ 128) × Distinct (fragment a area c .state .places)
 after-a-call a area c g = let k = fragment-ok a area c g in (k .few, k .once)

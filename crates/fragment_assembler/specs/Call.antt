@@ -14,7 +14,7 @@ use Rattle.assembly_record.specs.Marks.{markRun}
 use Rattle.assembly_record.specs.Fragments.{firstByte, brings, isWhole}
 use Rattle.fragment_assembler.specs.Refusal.{Call, refusal}
 
--- what an accepted call did to which number: "the answer says which happened, with the number, and for a return its place and length"
+-- "each answer says which happened to which number": kept, returned with its place and its length, or dropped
 pub data Fate : Type 0 where
   kept : Fate
   returned : ℕ → ℕ → ℕ → Fate

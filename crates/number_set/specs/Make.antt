@@ -43,7 +43,7 @@ setFrom k low last xs =
       words = markedTo (k .apart low) (k .nought) xs (spanned (k .apart low last)) (length xs);
     }
 
--- "base below 1 then gives the empty set at 1; else .."
+-- "base below 1 then gives the empty set at 1", else the set from there on
 abbrev pub setAbove : (k : Kind) → k .Number → k .Number → List (k .Number) → NumberSet (k .Number)
 setAbove k low last xs = cond (k .below low (k .least)) (emptyAt (k .least)) (setFrom k low last xs)
 

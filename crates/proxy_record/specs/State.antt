@@ -5,7 +5,7 @@ use lib.ListN.{length}
 use Rattle.sequence_number.specs.Number.{top}
 use Rattle.proxy_record.specs.Entries.{Entry, Rising}
 
--- "ack base, tracked numbers, each received at a time or not available, and the last received number with its time"
+-- "ack base (1), tracked numbers, each received at a time or not available, and the last received number (0) with its time"
 pub record State : Type 0 where
   pub base : ℕ
   pub tracked : List Entry

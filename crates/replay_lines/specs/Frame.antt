@@ -11,7 +11,7 @@ use Rattle.replay_lines.specs.declared.frame.Frame.the-variants.{Receive
 use Rattle.replay_lines.specs.declared.frame.Parsed.{Parsed}
 use Rattle.replay_lines.specs.declared.frame.Parsed.the-variants.{Malformed, Reads}
 
--- "01 received (number, time), 02 range (a, b), 03 missing (start, end)"; "a received time is the second number's bits, unsigned"; any other kind does not read.
+-- "01 received (number, time), 02 range (a, b), 03 missing (start, end; room 256)"; "a received time is the second number's bits, unsigned"; any other kind does not read.
 -- `toZ w64` reads 64 bits as a signed number, in two's complement
 unfoldable pub frameOf : ℕ → ℕ → ℕ → Parsed
 frameOf kind a b =
