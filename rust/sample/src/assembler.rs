@@ -1,8 +1,8 @@
 //! Blocks put together: runs and their payloads, places used again, evictions, cleaning, the view, and seeded chains.
 
 use crate::fragments::sound;
-use crate::random::Random;
 use crate::recorder::{Fragment, Recorder, PLACES};
+use protocol::Random;
 
 /// A later fragment's data size, an earlier time, marks set twice, payloads short and long, old bytes in a place.
 fn runs(sample: &mut Recorder) {

@@ -5,7 +5,6 @@ mod fragments;
 mod layout;
 mod numbers;
 mod proxy;
-mod random;
 mod recorder;
 mod sets;
 

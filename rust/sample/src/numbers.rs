@@ -1,7 +1,7 @@
 //! One number, written and read: both kinds, both orders, every length around enough.
 
-use crate::random::Random;
 use crate::recorder::{Kind, Recorder};
+use protocol::Random;
 
 /// Numbers at the edges of their bytes, of their words and of their type.
 fn edges(kind: Kind) -> Vec<i64> {

@@ -1,7 +1,7 @@
 //! The writer proxy: refusals at their edges, known values, the cap, queries after each, and seeded chains.
 
-use crate::random::Random;
 use crate::recorder::Recorder;
+use protocol::Random;
 
 /// Numbers at which a call turns from refused to accepted, and their neighbours.
 const ENDS: [i64; 8] = [i64::MIN, -1, 0, 1, 2, i64::MAX - 2, i64::MAX - 1, i64::MAX];

@@ -1,7 +1,7 @@
 //! Number sets: read, written, walked both ways, measured and made.
 
-use crate::random::Random;
 use crate::recorder::{Kind, Recorder, Set};
+use protocol::Random;
 
 /// Counts at the edges of the words and of the limit.
 const COUNTS: [u32; 17] = [
