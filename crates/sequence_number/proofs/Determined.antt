@@ -14,7 +14,7 @@ use Rattle.sequence_number.specs.declared.wire.SequenceNumberRead.the-va
 use Rattle.sequence_number.specs.declared.wire.FragmentNumberRead.the-variants as fragment-read
 use Rattle.sequence_number.specs.declared.wire.Written.the-variants as written
 
--- a promise that is an equation: reading and making a set, `number_of`, `natural`
+-- a promise that is an equation: reading and making a set, `number_of`, `natural`, `bits_of`, `of_bits`
 pub equal-determined : {A : Type 0} {r r′ x : A} → r ≡ x → r′ ≡ x → r ≡ r′
 equal-determined p q = p ∙ sym q
 
