@@ -35,3 +35,12 @@ said (b ∷ bs) r = says b r ++ said bs (took b r)
 abbrev pub NoFeed : List ℕ → Type 0
 NoFeed [] = Unit {0}
 NoFeed (b ∷ bs) = (b ≡ 10 → ⊥) × NoFeed bs
+
+-- lines, none with a line feed in it, and the bytes of their recording: "Lines end in a line feed"
+abbrev pub Lines : List (List ℕ) → Type 0
+Lines [] = Unit {0}
+Lines (line ∷ lines) = NoFeed line × Lines lines
+
+abbrev pub recorded : List (List ℕ) → List ℕ
+recorded [] = []
+recorded (line ∷ lines) = line ++ (10 ∷ recorded lines)
