@@ -7,8 +7,8 @@ use native.Mathlib.Omega.{arith}
 use lib.ListN.{length, take, length-set}
 use lib.Seq.{take-suc-set, take-all, take-append-le, length-take-le}
 use lib.Dec.{ltb}
-use borrow.Author.Tests.{lt-ltb, le-ltb, ne-eqb}
-use Rattle.sequence_number.proofs.Split.{split, split-lt}
+use borrow.Author.Tests.{lt-ltb, le-ltb, eq-eqb, ne-eqb}
+use Rattle.sequence_number.proofs.Split.{split, split-lt, split-eq}
 use Rattle.replay_lines.specs.Answer.{enough}
 use Rattle.replay_lines.specs.Feed.{kept, Run, took, says, Progress, onward, goOn}
 use Rattle.replay_lines.specs.Replay.{ran, said, NoFeed}
@@ -61,6 +61,15 @@ line-held (b ∷ line) n r h c =
     let s = holds b (n .0) r h c line in
     let t = line-held line (n .1) (took b r) (omega (arith, k .2)) (s .0) in
     (ap (λ (l : List ℕ). l ++ said line (took b r)) (silent b (n .0) r) ∙ t .0, t .1 ∙ k .0, t .2 ∙ k .1, t .3 ∙ s .1)
+
+-- no byte changes how many can be held
+took-held : (b : ℕ) (r : Run) → length (took b r .held) ≡ length (r .held)
+unfolding took
+took-held b r = ⊎-elim (λ e. rw (eq-eqb b 10 e)) (λ e. keeps b e r .2) (split-eq b 10)
+
+pub ran-held : (bytes : List ℕ) (r : Run) → length (ran bytes r .held) ≡ length (r .held)
+ran-held [] r = refl
+ran-held (b ∷ bytes) r = ran-held bytes (took b r) ∙ took-held b r
 
 -- how far a piece is taken, what is lent and what was said are those of its first bytes
 pub walk-ran : (size : ℕ) (piece : List ℕ) (x : Progress)
