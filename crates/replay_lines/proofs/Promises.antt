@@ -2,11 +2,12 @@
 use Prim.Native.Nat.{ℕ, _-_, _<_, _≤_}
 use mathlib.Core.Path.{_≡_, refl, sym, ap, subst, _∙_}
 use mathlib.Core.Logic.{⊎-elim}
-use mathlib.Core.List.{List, [], _∷_, _++_, append-assoc, append-nil}
+use mathlib.Core.List.{List, [], _∷_, _++_, flatten, append-assoc, append-nil}
 use native.Mathlib.Omega.{arith}
-use lib.ListN.{length, take, length-replicate}
-use lib.Seq.{take-all, length-take-le}
+use lib.ListN.{length, take, drop, length-replicate, take-append-drop}
+use lib.Seq.{take-all, take-at, length-take-le}
 use lib.IntN.{ℤ, pos}
+use borrow.Author.Tests.{lt-ltb}
 use Rattle.sequence_number.specs.declared.wire.Written.{Written}
 use Rattle.sequence_number.proofs.Split.{split-lt}
 use Rattle.proxy_record.specs.State.{State, Ok}
@@ -16,13 +17,16 @@ use Rattle.proxy_core.specs.Calls.{cap}
 use Rattle.writer_proxy.proofs.Promises.{record-reads-back}
 use Rattle.replay_lines.specs.Frame.{parsed}
 use Rattle.replay_lines.specs.Answer.{Step, room, textOf, stepOf, answered, Answered}
-use Rattle.replay_lines.specs.Feed.{kept, Run, lineDoes, took, says, goOn, begin, fed, Fed-to}
-use Rattle.replay_lines.specs.Replay.{blank, lineStep, replayed, ran, said, NoFeed, Ready, Lines, recorded}
+use Rattle.replay_lines.specs.Feed.{kept, Run, lineDoes, took, says, goOn, begin, AfterPiece, fed, runOf, Fed-to}
+use Rattle.replay_lines.specs.Replay.{blank, lineStep, replayed, ran, said, NoFeed, Ready, Lines, recorded, linesOf, lacking, ranEach, saidEach, Calls}
+use Rattle.replay_lines.specs.Replay as replay
 use Rattle.replay_lines.specs.declared.feed.Fed.{Fed}
+use Rattle.replay_lines.specs.declared.feed.Fed.the-variants.{Took}
 use Rattle.replay_lines.specs.declared.frame.Parsed.the-variants.{Malformed}
 use Rattle.replay_lines.proofs.FrameLaws.{parsed-length}
+use Rattle.replay_lines.proofs.FeedLaws.{fed-took}
 use Rattle.replay_lines.proofs.StepLaws.{line-keeps, step-alike, step-length}
-use Rattle.replay_lines.proofs.ReplayLaws.{ran-append, said-append, line-held, ran-held, walk-ran}
+use Rattle.replay_lines.proofs.ReplayLaws.{ran-append, said-append, line-held, ran-held, some-held, recorded-more, lines-more, lastLine, parted, walk-ran}
 
 -- Determination: "prove that two answers allowed by it are equal", with the record, the list and the buffer
 
@@ -109,16 +113,6 @@ recording-said (line ∷ lines) n r p =
       subst Ready (sym (ap (λ (bytes : List ℕ). ran bytes r) e ∙ ran-append a (recorded lines) r)) (v .1),
     )
 
-recorded-last : (lines : List (List ℕ)) (last : List ℕ) → (recorded lines ++ last) ++ (10 ∷ []) ≡ recorded (lines ++ (last ∷ []))
-recorded-last [] last = refl
-recorded-last (line ∷ lines) last =
-    append-assoc (line ++ (10 ∷ recorded lines)) last (10 ∷ []) ∙ append-assoc line (10 ∷ recorded lines) (last ++ (10 ∷ []))
-    ∙ ap (λ (l : List ℕ). line ++ (10 ∷ l)) (sym (append-assoc (recorded lines) last (10 ∷ [])) ∙ recorded-last lines last)
-
-lines-last : (lines : List (List ℕ)) (last : List ℕ) → Lines lines → NoFeed last → Lines (lines ++ (last ∷ []))
-lines-last [] last n m = (m, tt)
-lines-last (line ∷ lines) last n m = (n .0, lines-last lines last (n .1) m)
-
 -- "a line feed, which a last, non-empty line may lack": some bytes are held then, and one line feed more says the last answer
 pub last-line-said : (lines : List (List ℕ)) (last : List ℕ) → Lines lines → NoFeed last → (last ≡ [] → ⊥) → (r : Run) → Ready r
     → let bytes = recorded lines ++ last in
@@ -128,13 +122,38 @@ last-line-said lines last n m full r p =
     let u = ran (recorded lines) r in
     let t = line-held last m u (v .1 .holds) (omega (arith, v .1 .empty)) in (
       said-append (recorded lines) last r ∙ (λ i. v .0 i ++ t .0 i) ∙ append-nil (replayed lines (stateOf (r .words))),
-      rw (ran-append (recorded lines) last r) (holds-some last full (ran last u) (t .3 ∙ ap (λ (k : ℕ). take kept (take k (u .held) ++ last)) (v .1 .empty))),
-      sym (said-append (recorded lines ++ last) (10 ∷ []) r) ∙ ap (λ (bytes : List ℕ). said bytes r) (recorded-last lines last) ∙ recording-said (lines ++ (last ∷ [])) (lines-last lines last n m) r p .0,
+      rw (ran-append (recorded lines) last r) (some-held last full (ran last u) (t .3 ∙ ap (λ (k : ℕ). take kept (take k (u .held) ++ last)) (v .1 .empty))),
+      sym (said-append (recorded lines ++ last) (10 ∷ []) r) ∙ ap (λ (bytes : List ℕ). said bytes r) (recorded-more lines last) ∙ recording-said (lines ++ (last ∷ [])) (lines-more lines last n m) r p .0,
     )
-  where
-    holds-some : (line : List ℕ) → (line ≡ [] → ⊥) → (r : Run) → take (r .count) (r .held) ≡ take kept line → 0 < r .count
-    holds-some [] f r e = absurd (f refl)
-    holds-some (b ∷ line) f r e = ⊎-elim (λ h. h) (λ h. let z : r .count ≡ 0 = omega arith in let w : [] ≡ b ∷ take 34 line = rw z at e in absurd (omega (arith, ap length w))) (split-lt 0 (r .count))
+
+parted-said : (lines : List (List ℕ)) (last : List ℕ) → Lines lines → NoFeed last → (r : Run) → Ready r
+    → let u = ran (recorded lines ++ last) r in
+    said (recorded lines ++ last) r ++ said (lacking u) u ≡ replayed (lines ++ lastLine last) (stateOf (r .words))
+parted-said lines [] n m r p =
+    let v = recording-said lines n r p in
+    let e : recorded lines ++ [] ≡ recorded lines = append-nil (recorded lines) in
+    let z : ran (recorded lines ++ []) r .count ≡ 0 = ap (λ (bytes : List ℕ). ran bytes r .count) e ∙ v .1 .empty in
+    rw z (append-nil (said (recorded lines ++ []) r) ∙ ap (λ (bytes : List ℕ). said bytes r) e ∙ v .0 ∙ ap (λ (l : List (List ℕ)). replayed l (stateOf (r .words))) (sym (append-nil lines)))
+parted-said lines (b ∷ last) n m r p =
+    let v = last-line-said lines (b ∷ last) n m (λ e. absurd (omega (arith, ap length e))) r p in
+    rw (lt-ltb 0 (ran (recorded lines ++ (b ∷ last)) r .count) (v .1)) (v .2)
+
+-- "Any bytes .. may come": every input gives the answers to its lines, a last one that lacks its line feed included
+pub input-said : (bytes : List ℕ) (r : Run) → Ready r → said bytes r ++ said (lacking (ran bytes r)) (ran bytes r) ≡ replayed (linesOf bytes) (stateOf (r .words))
+input-said bytes r p =
+    let c = parted bytes in
+    ap (λ (l : List ℕ). said l r ++ said (lacking (ran l r)) (ran l r)) (c .is)
+    ∙ parted-said (c .lines) (c .last) (c .are-lines) (c .no-feed) r p ∙ ap (λ (l : List (List ℕ)). replayed l (stateOf (r .words))) (sym (c .lines-of))
+
+-- Pieces
+
+-- however input is cut, what is lent after it and all that is said are the same
+pub pieces-said : (pieces : List (List ℕ)) (r : Run) → (ranEach pieces r ≡ ran (flatten pieces) r) × (saidEach pieces r ≡ said (flatten pieces) r)
+unfolding flatten
+pieces-said [] r = (refl, refl)
+pieces-said (piece ∷ pieces) r =
+    let t = pieces-said pieces (ran piece r) in
+    (t .0 ∙ sym (ran-append piece (flatten pieces) r), ap (λ (l : List ℕ). said piece r ++ l) (t .1) ∙ sym (said-append piece (flatten pieces) r))
 
 -- a piece, as far as it is taken, byte after byte
 pub piece-said : (size : ℕ) (piece : List ℕ) (r : Run) → let x = goOn size piece (begin r) in (x .run ≡ ran (take (x .taken) piece) r) × (x .text ≡ said (take (x .taken) piece) r)
@@ -143,3 +162,35 @@ piece-said size piece r =
     let n = goOn size piece (begin r) .taken in
     let z : n - 0 ≡ n = omega arith in
     (rw z at (w .1), rw z at (w .2))
+
+-- calls of `feed` write what the bytes of their input say, however it is cut and however much room each answer has
+pub calls-said : {input text : List ℕ} {r end : Run} → Calls input r text end → (text ≡ said input r) × (end ≡ ran input r)
+calls-said (replay.Calls.over r) = (refl, refl)
+calls-said (replay.Calls.call {r = r} {end = end} piece rest out words list held out′ taken count wrote {text = text} f k) =
+    let x = goOn (length out) piece (begin r) in
+    let d = fed-took r piece out taken count wrote (f .answer-is) in
+    let q : Took taken count wrote ≡ Took (x .taken) (x .run .count) (length (x .text)) = f .answer-is ∙ ap (λ (y : AfterPiece). y .answer) d in
+    let q-taken : taken ≡ x .taken = cc in
+    let q-count : count ≡ x .run .count = cc in
+    let q-wrote : wrote ≡ length (x .text) = cc in
+    let a = take taken piece in
+    let b = drop taken piece ++ rest in
+    let g = piece-said (length out) piece r in
+    let u : runOf words list held count ≡ ran a r =
+    (λ i. runOf ((f .words-are ∙ ap (λ (y : AfterPiece). y .run .words) d) i) ((f .list-is ∙ ap (λ (y : AfterPiece). y .run .list) d) i) ((f .held-are ∙ ap (λ (y : AfterPiece). y .run .held) d) i) (q-count i))
+    ∙ g .0 ∙ ap (λ (n : ℕ). ran (take n piece) r) (sym q-taken) in
+    let o : take wrote out′ ≡ said a r =
+    ap (take wrote) (f .out-is ∙ ap (λ (y : AfterPiece). y .out) d) ∙ take-at (x .text) (drop (length (x .text)) out) wrote (sym q-wrote)
+    ∙ g .1 ∙ ap (λ (n : ℕ). said (take n piece) r) (sym q-taken) in
+    let e : a ++ b ≡ piece ++ rest = sym (append-assoc a (drop taken piece) rest) ∙ ap (λ (l : List ℕ). l ++ rest) (take-append-drop taken piece) in
+    let t = calls-said k in (
+      (λ i. o i ++ (t .0 ∙ ap (said b) u) i) ∙ sym (said-append a b r) ∙ ap (λ (l : List ℕ). said l r) e,
+      t .1 ∙ ap (ran b) u ∙ sym (ran-append a b r) ∙ ap (λ (l : List ℕ). ran l r) e,
+    )
+
+-- the whole of it: calls over an input, and over the line feed that it may lack, write the answers to its lines
+pub calls-answer : {input text more : List ℕ} {r end last : Run} → Ready r → Calls input r text end → Calls (lacking end) end more last → text ++ more ≡ replayed (linesOf input) (stateOf (r .words))
+calls-answer {input = input} {r = r} p c d =
+    let t = calls-said c in
+    let m = calls-said d in
+    (λ i. t .0 i ++ (m .0 ∙ ap (λ (u : Run). said (lacking u) u) (t .1)) i) ∙ input-said input r p
