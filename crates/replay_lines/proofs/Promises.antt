@@ -4,9 +4,9 @@ use mathlib.Core.Path.{_≡_, refl, sym, ap, subst, _∙_}
 use mathlib.Core.Logic.{⊎-elim}
 use mathlib.Core.List.{List, [], _∷_, _++_, flatten, append-assoc, append-nil}
 use native.Mathlib.Omega.{arith}
-use lib.ListN.{length, take, drop, length-replicate, take-append-drop}
+use lib.ListN.{length, take, drop, take-append-drop}
 use lib.Seq.{take-all, take-at, length-take-le}
-use lib.IntN.{ℤ, pos}
+use lib.IntN.{ℤ}
 use borrow.Author.Tests.{lt-ltb}
 use Rattle.sequence_number.specs.declared.wire.Written.{Written}
 use Rattle.sequence_number.proofs.Split.{split-lt}
@@ -16,7 +16,7 @@ use Rattle.proxy_record.proofs.RecordLaws.{good-is}
 use Rattle.proxy_core.specs.Calls.{cap}
 use Rattle.writer_proxy.proofs.Promises.{record-reads-back}
 use Rattle.replay_lines.specs.Frame.{parsed}
-use Rattle.replay_lines.specs.Answer.{Step, room, textOf, stepOf, answered, Answered}
+use Rattle.replay_lines.specs.Answer.{Step, textOf, stepOf, answered, Answered}
 use Rattle.replay_lines.specs.Feed.{kept, Run, lineDoes, took, says, goOn, begin, AfterPiece, fed, runOf, Fed-to}
 use Rattle.replay_lines.specs.Replay.{blank, lineStep, replayed, ran, said, NoFeed, Ready, Lines, recorded, linesOf, lacking, ranEach, saidEach, Calls}
 use Rattle.replay_lines.specs.Replay as replay
@@ -26,7 +26,7 @@ use Rattle.replay_lines.specs.declared.frame.Parsed.the-variants.{Malfor
 use Rattle.replay_lines.proofs.FrameLaws.{parsed-length}
 use Rattle.replay_lines.proofs.FeedLaws.{fed-took}
 use Rattle.replay_lines.proofs.StepLaws.{line-keeps, step-alike, step-length}
-use Rattle.replay_lines.proofs.ReplayLaws.{ran-append, said-append, line-held, ran-held, some-held, recorded-more, lines-more, lastLine, parted, walk-ran}
+use Rattle.replay_lines.proofs.ReplayLaws.{ran-append, said-append, line-held, ran-held, blank-long, some-held, recorded-more, lines-more, lastLine, parted, walk-ran}
 
 -- Determination: "prove that two answers allowed by it are equal", with the record, the list and the buffer
 
@@ -75,10 +75,6 @@ line-said line n r h z =
       ap (λ (y : Run). y .count) (ran-append line (10 ∷ []) r),
     )
 
-blank-long : room ≤ length blank
-unfolding blank
-blank-long = omega (arith, length-replicate room (pos 0))
-
 -- the same between two lines: what is said is what `replayed` has, and the next line may come
 line-replayed : (line : List ℕ) → NoFeed line → (r : Run) → Ready r
     → let after = ran (line ++ (10 ∷ [])) r in
@@ -126,6 +122,7 @@ last-line-said lines last n m full r p =
       sym (said-append (recorded lines ++ last) (10 ∷ []) r) ∙ ap (λ (bytes : List ℕ). said bytes r) (recorded-more lines last) ∙ recording-said (lines ++ (last ∷ [])) (lines-more lines last n m) r p .0,
     )
 
+-- any input, parted into a recording and the bytes after it
 parted-said : (lines : List (List ℕ)) (last : List ℕ) → Lines lines → NoFeed last → (r : Run) → Ready r
     → let u = ran (recorded lines ++ last) r in
     said (recorded lines ++ last) r ++ said (lacking u) u ≡ replayed (lines ++ lastLine last) (stateOf (r .words))
@@ -138,7 +135,7 @@ parted-said lines (b ∷ last) n m r p =
     let v = last-line-said lines (b ∷ last) n m (λ e. absurd (omega (arith, ap length e))) r p in
     rw (lt-ltb 0 (ran (recorded lines ++ (b ∷ last)) r .count) (v .1)) (v .2)
 
--- "Any bytes .. may come": every input gives the answers to its lines, a last one that lacks its line feed included
+-- "Lines end in a line feed, which a last, non-empty line may lack": so read, any input gives the answers to its lines
 pub input-said : (bytes : List ℕ) (r : Run) → Ready r → said bytes r ++ said (lacking (ran bytes r)) (ran bytes r) ≡ replayed (linesOf bytes) (stateOf (r .words))
 input-said bytes r p =
     let c = parted bytes in
@@ -165,7 +162,7 @@ piece-said size piece r =
 
 -- calls of `feed` write what the bytes of their input say, however it is cut and however much room each answer has
 pub calls-said : {input text : List ℕ} {r end : Run} → Calls input r text end → (text ≡ said input r) × (end ≡ ran input r)
-calls-said (replay.Calls.over r) = (refl, refl)
+calls-said (replay.Calls.finished r) = (refl, refl)
 calls-said (replay.Calls.call {r = r} {end = end} piece rest out words list held out′ taken count wrote {text = text} f k) =
     let x = goOn (length out) piece (begin r) in
     let d = fed-took r piece out taken count wrote (f .answer-is) in

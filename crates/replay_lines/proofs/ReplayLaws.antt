@@ -4,14 +4,15 @@ use mathlib.Core.Path.{_≡_, refl, sym, ap, _∙_}
 use mathlib.Core.Logic.{⊎-elim}
 use mathlib.Core.List.{List, [], _∷_, _++_, append-assoc, append-nil}
 use native.Mathlib.Omega.{arith}
-use lib.ListN.{length, take, length-set}
+use lib.ListN.{length, take, length-set, length-replicate}
 use lib.Seq.{take-suc-set, take-all, take-append-le, length-take-le}
 use lib.Dec.{ltb}
+use lib.IntN.{pos}
 use borrow.Author.Tests.{lt-ltb, le-ltb, eq-eqb, ne-eqb}
 use Rattle.sequence_number.proofs.Split.{split, split-lt, split-eq}
-use Rattle.replay_lines.specs.Answer.{enough}
+use Rattle.replay_lines.specs.Answer.{room, enough}
 use Rattle.replay_lines.specs.Feed.{kept, Run, took, says, Progress, onward, goOn}
-use Rattle.replay_lines.specs.Replay.{ran, said, NoFeed, Lines, recorded, begins, linesOf}
+use Rattle.replay_lines.specs.Replay.{blank, ran, said, NoFeed, Lines, recorded, begins, linesOf}
 
 -- one run of bytes after another
 pub ran-append : (a b : List ℕ) (r : Run) → ran (a ++ b) r ≡ ran b (ran a r)
@@ -72,6 +73,10 @@ ran-held [] r = refl
 ran-held (b ∷ bytes) r = ran-held bytes (took b r) ∙ took-held b r
 
 -- Recordings
+
+pub blank-long : room ≤ length blank
+unfolding blank
+blank-long = omega (arith, length-replicate room (pos 0))
 
 -- a line that has its first byte has some bytes held
 pub some-held : (line : List ℕ) → (line ≡ [] → ⊥) → (r : Run) → take (r .count) (r .held) ≡ take kept line → 0 < r .count

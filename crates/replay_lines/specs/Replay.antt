@@ -83,7 +83,7 @@ saidEach (piece ∷ pieces) r = said piece r ++ saidEach pieces (ran piece r)
 -- Calls of `feed` over an input until nothing of it is left: each is lent what the last one left and, from where that one stopped, a piece of any length.
 -- The input, what is lent at first, all bytes that the calls wrote, and what is lent in the end.
 pub data Calls : List ℕ → Run → List ℕ → Run → Type 0 where
-  over : (r : Run) → Calls [] r [] r
+  finished : (r : Run) → Calls [] r [] r
   call : {r end : Run} (piece rest out words : List ℕ) (list : List ℤ) (held out′ : List ℕ) (taken count wrote : ℕ) {text : List ℕ}
       → Fed-to (Took taken count wrote) words list held out′ (fed r piece out) → Calls (drop taken piece ++ rest) (runOf words list held count) text end
       → Calls (piece ++ rest) r (take wrote out′ ++ text) end
