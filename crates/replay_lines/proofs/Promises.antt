@@ -160,7 +160,7 @@ piece-said size piece r =
     let z : n - 0 ≡ n = omega arith in
     (rw z at (w .1), rw z at (w .2))
 
--- calls of `feed` write what the bytes of their input say, however it is cut and however much room each answer has
+-- calls of `feed` write what the bytes of their input say, however it is cut and however long their buffers are
 pub calls-said : {input text : List ℕ} {r end : Run} → Calls input r text end → (text ≡ said input r) × (end ≡ ran input r)
 calls-said (replay.Calls.finished r) = (refl, refl)
 calls-said (replay.Calls.call {r = r} {end = end} piece rest out words list held out′ taken count wrote {text = text} f k) =

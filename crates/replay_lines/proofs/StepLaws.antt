@@ -1,7 +1,7 @@
 -- Laws of `stepOf`: a line keeps the proxy's rules, and of the lent list only its length matters. Assumes nothing.
 use Prim.Native.Nat.{ℕ, _^_, _<_, _≤_}
 use mathlib.Core.Path.{_≡_, refl, sym, ap, subst, _∙_}
-use mathlib.Core.List.{List, map, _++_}
+use mathlib.Core.List.{List, map}
 use native.Mathlib.Omega.{arith}
 use lib.ListN.{length, take, drop, length-append, length-drop, length-map, take-append-drop}
 use lib.Seq.{length-take-le}
@@ -19,7 +19,7 @@ use Rattle.proxy_core.specs.Calls.{cap}
 use Rattle.writer_proxy.specs.Missing.{missingOf, listed}
 use Rattle.writer_proxy.proofs.Promises.{received-keeps-rules, range-keeps-rules}
 use Rattle.replay_lines.specs.Decimal.{lineOf}
-use Rattle.replay_lines.specs.Hex.{allHex, valueAt}
+use Rattle.replay_lines.specs.Hex.{allHex}
 use Rattle.replay_lines.specs.Frame.{frameOf, parsed}
 use Rattle.replay_lines.specs.Answer.{room, counted, stepOf, textOf}
 use Rattle.replay_lines.specs.declared.frame.Frame.the-variants.{Received, Range, Missing}
