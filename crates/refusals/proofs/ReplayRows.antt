@@ -29,7 +29,7 @@ use Rattle.replay_lines.specs.Hex.{digitOf, allHex, valueAt}
 use Rattle.replay_lines.specs.Frame.{frameOf, parsed}
 use Rattle.replay_lines.specs.Decimal.{lineOf}
 use Rattle.replay_lines.specs.Answer.{Step, Answer, counted, stepOf, textOf, given, answered, Answered}
-use Rattle.replay_lines.specs.Feed.{Run, Outcome, took, says, runOf, fed, Fed-to}
+use Rattle.replay_lines.specs.Feed.{Run, AfterPiece, took, says, runOf, fed, Fed-to}
 use Rattle.replay_lines.specs.declared.frame.Frame.{Frame}
 use Rattle.replay_lines.specs.declared.frame.Frame.the-variants.{Received, Range, Missing}
 use Rattle.replay_lines.specs.declared.frame.Parsed.{Parsed}
@@ -344,10 +344,10 @@ feed-line x g = step-line (take (x .count) (x .held)) (stateOf (x .words)) (x .l
 
 module _ (w w′ : List ℕ) (list list′ : List ℤ) (held held′ : List ℕ) (count : ℕ) (piece out out′ : List ℕ) (r : Fed)
     (a : Fed-to r w′ list′ held′ out′ (fed (runOf w list held count) piece out)) where
-  abbrev fedSays : Outcome → Verdict
+  abbrev fedSays : AfterPiece → Verdict
   fedSays x = fedAs (x .answer)
 
-  abbrev whole : Outcome
+  abbrev whole : AfterPiece
   whole = fed (runOf w list held count) piece out
 
   fed-rows : Exactly (fedSays whole) (feedRows list held count out)

@@ -7,10 +7,11 @@ use native.Mathlib.Omega.{arith}
 use native.Mathlib.Numerals.{add-one}
 use lib.ListN.{length, take, drop, getD, set, length-append, length-drop, take-append-drop, drop-of-length-le}
 use lib.Seq.{drop-cons, drop-drop, length-take-le, take-all, take-at, drop-at}
+use lib.Dec.{ltb}
 use lib.IntN.{ℤ}
 use borrow.Author.Tests.{lt-ltb, le-ltb, eq-eqb, ne-eqb}
 use Rattle.sequence_number.specs.Lent.{over}
-use Rattle.sequence_number.proofs.Split.{split-lt}
+use Rattle.sequence_number.proofs.Split.{split, split-lt}
 use Rattle.replay_lines.specs.Answer.{room, enough, Did}
 use Rattle.replay_lines.specs.Feed.{kept, Run, lineDoes, took, says, Progress, onward, goOn, begin, done, fed, runOf, Stepped, Fed-to}
 use Rattle.replay_lines.specs.declared.feed.Held.{Held}
@@ -151,6 +152,18 @@ piece-taken r piece out₀ i words list held n wrote out a d e f g k p =
 -- a buffer that had room is not full before the first byte
 pub further : (i wrote size : ℕ) → (i ≡ 0 → wrote ≡ 0) → enough ≤ size → size - wrote < enough → 0 < i
 further i wrote size z f h = ⊎-elim (λ p. p) (λ q. let e : wrote ≡ 0 = z (omega arith) in absurd (omega arith)) (split-lt 0 i)
+
+-- a piece that was not refused
+pub fed-took : (r : Run) (piece out : List ℕ) (taken count wrote : ℕ) → Took taken count wrote ≡ fed r piece out .answer → fed r piece out ≡ done (goOn (length out) piece (begin r)) out
+unfolding fed
+fed-took r piece out taken count wrote e =
+    split (ltb (length (r .list)) room) (λ a. absurd (not-refused (rw a at e)))
+    (λ a. split (ltb (length (r .held)) kept) (λ d. absurd (not-refused (rw (a, d) at e)))
+    (λ d. split (ltb kept (r .count)) (λ f. absurd (not-refused (rw (a, d, f) at e)))
+    (λ f. split (ltb (length out) enough) (λ g. absurd (not-refused (rw (a, d, f, g) at e))) (λ g. rw (a, d, f, g)))))
+  where
+    not-refused : Took taken count wrote ≡ Refused 3 → ⊥
+    not-refused z = let w : _≡_ {A = ℕ} 0 1 = cc in omega arith
 
 -- the refusals
 module _ (r : Run) (piece out : List ℕ) where

@@ -62,19 +62,19 @@ abbrev pub begin : Run → Progress
 begin r = record { taken = 0; run = r; text = [] }
 
 -- the answer, and what is lent as it is after the call
-pub record Outcome : Type 0 where
+pub record AfterPiece : Type 0 where
   pub answer : Fed
   pub run : Run
   pub out : List ℕ
 
-abbrev pub done : Progress → List ℕ → Outcome
+abbrev pub done : Progress → List ℕ → AfterPiece
 done x out = record { answer = Took (x .taken) (x .run .count) (length (x .text)); run = x .run; out = over (x .text) out }
 
-abbrev pub refused : Run → List ℕ → Outcome
+abbrev pub refused : Run → List ℕ → AfterPiece
 refused r out = record { answer = Refused 3; run = r; out = out }
 
 -- a list, a buffer or held bytes that are too short, and a count that is too large, are refused with 3 and leave everything
-unfoldable pub fed : Run → List ℕ → List ℕ → Outcome
+unfoldable pub fed : Run → List ℕ → List ℕ → AfterPiece
 fed r piece out =
     cond (ltb (length (r .list)) room) (refused r out)
     (cond (ltb (length (r .held)) kept) (refused r out)
@@ -93,7 +93,7 @@ pub record Stepped (r : Held) (words : List ℕ) (list : List ℤ) (held out out
   pub wrote-is : r .wrote ≡ length (says b x)
 
 -- the lent words, list, held bytes and buffer after a call
-pub record Fed-to (r : Fed) (words : List ℕ) (list : List ℤ) (held out : List ℕ) (x : Outcome) : Type 0 where
+pub record Fed-to (r : Fed) (words : List ℕ) (list : List ℤ) (held out : List ℕ) (x : AfterPiece) : Type 0 where
   pub answer-is : r ≡ x .answer
   pub words-are : words ≡ x .run .words
   pub list-is : list ≡ x .run .list
