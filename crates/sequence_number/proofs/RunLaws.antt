@@ -1,11 +1,11 @@
 -- Laws of runs of stores, `lib.Seq.sets`: one after the other, and what stands where a run was stored. Assumes nothing.
-use Prim.Native.Nat.{ℕ, suc, _+_, _≤_}
+use Prim.Native.Nat.{ℕ, suc, _+_, _<_, _≤_}
 use mathlib.Core.Path.{_≡_, ap, _∙_}
-use mathlib.Core.List.{List, [], _∷_, _++_}
+use mathlib.Core.List.{List, [], _∷_, _++_, append-assoc}
 use native.Mathlib.Omega.{arith}
 use native.Mathlib.Nat.{add-zero}
-use lib.ListN.{length, drop, set}
-use lib.Seq.{sets, sets-eq}
+use lib.ListN.{length, drop, getD, set, length-append}
+use lib.Seq.{sets, sets-eq, drop-cons, set-at}
 use Rattle.sequence_number.specs.Lent.{over}
 
 -- two runs, one after the other, are one
@@ -31,3 +31,9 @@ pub sets-over : {A : Type 0} (ms out : List A) → length ms ≤ length out → 
 sets-over ms out h =
     let k : 0 + length ms ≡ length ms = omega arith in
     sets-eq ms out 0 (omega arith) ∙ ap (λ (n : ℕ). ms ++ drop n out) k
+
+-- a store at the end of an answer makes it longer by one
+pub over-more : {A : Type 0} (m out : List A) (w : ℕ) (x : A) → length m ≡ w → w < length out → set (over m out) w x ≡ over (m ++ (x ∷ [])) out
+over-more m out w x e h =
+    let k : length (m ++ (x ∷ [])) ≡ suc w = simp length-append (omega arith) in
+    rw (k, e, drop-cons out w x h, set-at m (getD out w x) (drop (suc w) out) x w e, append-assoc)
