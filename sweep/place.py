@@ -126,7 +126,7 @@ class Said:
         return out
 
 
-UNFIT = re.compile(r"has no (?:field )?`|`rw`: no part|`tie\.Need-[\w-]+`, but this has type")
+UNFIT = re.compile(r"has no (?:field )?`|`rw`: no |`tie\.Need-[\w-]+`, but this has type")
 
 
 def refusal(errors):
