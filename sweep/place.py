@@ -126,12 +126,12 @@ class Said:
         return out
 
 
-UNFIT = re.compile(r"has no (?:field )?`|`rw`: no |`tie\.Need-[\w-]+`, but this has type")
+UNFIT = re.compile(r"has no (?:field )?`|`rw`: |`tie\.Need-[\w-]+`, but this has type")
 
 
 def refusal(errors):
     """A fact fails, or the proof does not fit the changed code: it names a need or a value that is not there, lacks a need,
-    or rewrites by an equation that applies nowhere."""
+    or rewrites by an equation that does not apply."""
     if not errors:
         return "refused: no error of its own"
     if any(UNFIT.search(e) for e in errors):
