@@ -117,18 +117,23 @@ class Said:
     def errors(self, f):
         """The errors of the function's own proof, or what is said of a place of its text."""
         module = r"(?:\w+/)?" + f.owner + "/" if f.owner else ("" if f.file == "lib.rt" else f.file[:-3] + "/")
-        own = re.compile(r"/proofs/" + module + r"\+?" + f.name + r"/\w+\.antt:\d+:\d+: error: (.*)$", re.M)
-        out = [m.group(1) for m in own.finditer(self.log) if "was not admitted" not in m.group(1)]
+        # a long message goes on in indented lines
+        own = re.compile(r"/proofs/" + module + r"\+?" + f.name + r"/\w+\.antt:\d+:\d+: error: (.*(?:\n  .*)*)$", re.M)
+        out = [" ".join(m.group(1).split()) for m in own.finditer(self.log) if "was not admitted" not in m.group(1)]
         text = re.compile(r"(?:note: )?\S*src/" + f.file + r":(\d+):\d+: (?!error|warning)(.*)$", re.M)
         if not out:
             out = [m.group(2) for m in text.finditer(self.log) if f.line <= int(m.group(1)) <= f.last]
         return out
 
 
+UNFIT = re.compile(r"has no (?:field )?`|`rw`: |`tie\.Need-[\w-]+`, but this has type")
+
+
 def refusal(errors):
-    """A fact fails, or the proof does not fit the changed code: it names a need that is not there, or lacks one."""
+    """A fact fails, or the proof does not fit the changed code: it names a need or a value that is not there, lacks a need,
+    or rewrites by an equation that does not apply."""
     if not errors:
         return "refused: no error of its own"
-    if any("has no `" in e for e in errors):
+    if any(UNFIT.search(e) for e in errors):
         return "refused: proof unfit"
     return "refused: a fact fails"

@@ -11,7 +11,7 @@ from trials import Sweep
 
 
 class Ports(Sweep):
-    """The edits of sweep/ports/CRATE: as a must-fail edit, with a line `in: FUNCTION` in whose text each `old:` is unique."""
+    """The edits of sweep/ports/CRATE: as a must-fail edit, with a line `in: FUNCTION` in whose text each `old:` is unique. Lines of `old:` that follow each other are one text."""
 
     def __init__(self, place, name, rows):
         self.copy, self.crate, self.rows = place, Crate(name), rows
@@ -27,21 +27,26 @@ class Ports(Sweep):
             self.read(file[:-5], os.path.join(folder, file))
 
     def read(self, edit, path):
-        words, label, old, text = [], None, None, None
+        words, label, pairs, last = [], None, [], ""
         with open(path, encoding="utf-8") as h:
             for line in h.read().splitlines():
                 if line.startswith("# "):
                     words.append(line[2:])
                 elif line.startswith("in: "):
                     label = line[4:]
-                    text = self.crate.by_label[label].text if label in self.crate.by_label else None
                 elif line.startswith("old: "):
-                    old = line[5:]
+                    if last != "old":
+                        pairs.append(([], []))
+                    pairs[-1][0].append(line[5:])
                 elif line.startswith("new: "):
-                    if text is None or text.count(old) != 1:
-                        self.rows[(self.crate.name, edit)] = [label, "", "does not apply: not once in that function: " + old.strip(), " ".join(words), ""]
-                        return
-                    text = text.replace(old, line[5:])
+                    pairs[-1][1].append(line[5:])
+                last = line[:3]
+        text = self.crate.by_label[label].text if label in self.crate.by_label else None
+        for old, new in (("\n".join(o), "\n".join(n)) for o, n in pairs):
+            if text is None or text.count(old) != 1:
+                self.rows[(self.crate.name, edit)] = [label, "", "does not apply: not once in that function: " + old.strip(), " ".join(words), ""]
+                return
+            text = text.replace(old, new)
         f = self.crate.by_label[label]
         c = Change("port", 0, f.text, text, f.line)
         c.name, c.words = edit, " ".join(words)
