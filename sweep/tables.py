@@ -7,7 +7,7 @@ from ports import read_ports
 from results import Results
 from text import HERE, ROOT, Crate, libraries, names_known, results_of_calls
 
-CLASSES = ["a fact fails", "proof unfit", "no error of its own", "accepted", "could not tell", "not a program"]
+CLASSES = ["refused", "accepted", "could not tell", "not a program"]
 
 
 def class_of(verdict):
@@ -30,7 +30,7 @@ def reasons():
 
 
 def count_table(groups):
-    lines = ["| | tried | a fact fails | the proof does not fit | accepted | could not tell | no program |", "|---|---|---|---|---|---|---|"]
+    lines = ["| | tried | refused | accepted | could not tell | no program |", "|---|---|---|---|---|---|"]
     total = {}
     for name, verdicts in list(groups.items()) + [("all", None)]:
         n = total if verdicts is None else {}
@@ -38,8 +38,7 @@ def count_table(groups):
             n[class_of(v)] = n.get(class_of(v), 0) + 1
             total[class_of(v)] = total.get(class_of(v), 0) + 1
         tried = sum(n.get(c, 0) for c in CLASSES if c != "not a program")
-        unfit = n.get("proof unfit", 0) + n.get("no error of its own", 0)
-        lines.append("| %s | %d | %d | %d | %d | %d | %d |" % (name, tried, n.get("a fact fails", 0), unfit, n.get("accepted", 0), n.get("could not tell", 0), n.get("not a program", 0)))
+        lines.append("| %s | %d | %d | %d | %d | %d |" % (name, tried, n.get("refused", 0), n.get("accepted", 0), n.get("could not tell", 0), n.get("not a program", 0)))
     return lines
 
 
