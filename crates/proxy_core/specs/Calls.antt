@@ -52,7 +52,7 @@ abbrev pub lowestGone : List Entry → State → State
 lowestGone [] s = s
 lowestGone (x ∷ l) s = rebased (max (s .base) (suc (x .number))) (changed l s)
 
--- so often
+-- the same, k times
 abbrev pub trim : ℕ → State → State
 trim zero s = s
 trim (suc k) s = trim k (lowestGone (s .tracked) s)

@@ -58,6 +58,7 @@ pub record Marks (k t : ℕ) : Type 0 where
 unfoldable pub column : (Entry → ℕ) → List Entry → List ℕ
 column f l = map f l ++ zeros (slots - length l)
 
+-- the words in their order
 unfoldable pub layout : ℕ → ℕ → ℕ → ℕ → List ℕ → List ℕ → List ℕ → List ℕ
 layout base count last time numbers kinds times = base ∷ count ∷ last ∷ time ∷ (numbers ++ (kinds ++ times))
 
@@ -81,7 +82,7 @@ stateOf w = record { base = getD w 0 0; tracked = rows (getD w 1 0) 0 w; last = 
 abbrev pub tracked : List ℕ → List Entry
 tracked w = stateOf w .tracked
 
--- words that are the record of a state that keeps the rules, with at most m tracked; `whole` and `count` follow from `made`, and are here for the callers
+-- words that are the record of a state that keeps the rules, with at most m tracked. `whole` follows from `made` and `ok` (m is at most 257), `count` from `rows`: they are here for the callers
 pub record GoodUpTo (m : ℕ) (w : List ℕ) : Type 0 where
   pub made : w ≡ recordOf (stateOf w)
   pub whole : length w ≡ size

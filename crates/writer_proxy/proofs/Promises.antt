@@ -97,7 +97,7 @@ ignore-exact (pos n) s =
     (λ e. rw e (λ h. inl refl, λ h. refl))
     (λ e. rw e (λ h. inr (has-tracked n (s .tracked) .0 h), ⊎-elim (λ h. let z : _≡_ {A = ℕ} 0 1 = cc in absurd (omega arith)) (λ h. has-tracked n (s .tracked) .1 h)))
 
--- The missing list, "from the larger of heartbeat start and ack base through that end"
+-- The missing list, from max(heartbeat start, ack base) through heartbeat end
 module _ (start end : ℤ) (s : State) (o : Ok cap s) where
   -- exactly the untracked numbers
   pub missing-exact : (n : ℕ) → List·Memᴰ n (missingOf start end s) ↔ ((s .base ≤ n) × (leZ start (pos n) ≡ true) × (leZ (pos n) end ≡ true) × (Tracked n (s .tracked) → ⊥))
