@@ -144,7 +144,8 @@ uint64_t drucenal_proxy_last_received(const uint64_t *words, size_t length, uint
 uint32_t drucenal_proxy_missing_seqnums(const uint64_t *words, size_t length, int64_t start, int64_t end, int64_t *out,
                                         size_t room, size_t *listed);
 
-/* The count for an acknack; the caller's own is moved on where it lies, from 2,147,483,647 to -2,147,483,648. */
+/* The count for an acknack; the caller begins it at 0. The caller's own is moved on where it lies, from 2,147,483,647
+ * to -2,147,483,648. */
 int32_t drucenal_next_ack_nack_sequence_number(int32_t *count);
 
 /*

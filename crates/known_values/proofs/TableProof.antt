@@ -5,7 +5,7 @@ use mathlib.Core.Path.{_≡_, refl, ap}
 use mathlib.Core.List.{[]}
 use lib.IntN.{pos}
 use Rattle.proxy_record.specs.Entries.{below, from, putIn, runLen}
-use Rattle.proxy_record.specs.State.{begun, changed}
+use Rattle.proxy_record.specs.State.{freshState, changed}
 use Rattle.proxy_core.specs.Calls.{noted, moveOn, discard, settled, capped, ended, receivedAt, received, without, skipped, putEach, rangeAt, irrelevantRange}
 use Rattle.proxy_core.proofs.RangeLaws.{gone, rangeIn, each-is}
 use Rattle.fragment_assembler.specs.Call.{fragment}
@@ -15,11 +15,11 @@ use Rattle.assembly_record.specs.Table.{has}
 use Rattle.known_values.specs.Table.{upFrom, numbers, KnownValues}
 
 -- P10: a thousand numbers are put as one run
-range-10 : irrelevantRange (pos 2) (pos 1002) begun ≡ ended (changed (rangeIn 2 1002 []) begun)
+range-10 : irrelevantRange (pos 2) (pos 1002) freshState ≡ ended (changed (rangeIn 2 1002 []) freshState)
 unfolding irrelevantRange rangeAt
-range-10 = ap ended (each-is 1000 2 begun tt (omega arith))
+range-10 = ap ended (each-is 1000 2 freshState tt (omega arith))
 
-p10 : (irrelevantRange (pos 2) (pos 1002) begun .state .base ≡ 746) × (numbers (irrelevantRange (pos 2) (pos 1002) begun .state) ≡ upFrom 746 256)
+p10 : (irrelevantRange (pos 2) (pos 1002) freshState .state .base ≡ 746) × (numbers (irrelevantRange (pos 2) (pos 1002) freshState .state) ≡ upFrom 746 256)
 unfolding ended capped rangeIn gone below from
 p10 = rw range-10 (refl, refl)
 

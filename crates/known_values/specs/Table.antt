@@ -15,7 +15,7 @@ use Rattle.fragment_assembler.specs.Refusal.{Call, callOf, refusal}
 use Rattle.fragment_assembler.specs.Call.{fragment}
 use Rattle.fragment_assembler.specs.SetUp.{empty}
 use Rattle.proxy_record.specs.Entries.{Entry}
-use Rattle.proxy_record.specs.State.{State, begun}
+use Rattle.proxy_record.specs.State.{State, freshState}
 use Rattle.proxy_core.specs.Calls.{received, irrelevantRange, upTo}
 use Rattle.writer_proxy.specs.Statements.{Tracked}
 
@@ -61,8 +61,8 @@ pub record KnownValues : Type 0 where
       → (fragments 1024 4 ≡ 256) × (refusal (empty 4 reliable 2048) (length area) (opening 1024) ≡ 0)
       × (fragment (empty 4 reliable 2048) area (opening 1025) .answer ≡ refused 9) × (fragment (empty 4 reliable 2048) area (opening 3) .answer ≡ refused 7)
   -- fresh, range 10 until 12, then 0 until 10: base 12. The second call is an "up to"
-  pub P9 : upTo (pos 10) (irrelevantRange (pos 10) (pos 12) begun .state) .state .base ≡ 12
+  pub P9 : upTo (pos 10) (irrelevantRange (pos 10) (pos 12) freshState .state) .state .base ≡ 12
   -- fresh, range 2 until 1002: base 746, tracked 746 to 1001
-  pub P10 : (irrelevantRange (pos 2) (pos 1002) begun .state .base ≡ 746) × (numbers (irrelevantRange (pos 2) (pos 1002) begun .state) ≡ upFrom 746 256)
+  pub P10 : (irrelevantRange (pos 2) (pos 1002) freshState .state .base ≡ 746) × (numbers (irrelevantRange (pos 2) (pos 1002) freshState .state) ≡ upFrom 746 256)
   -- fresh, received 2 to 258: base 3, 3 still tracked
-  pub P11 : (receivedEach 2 257 begun .base ≡ 3) × Tracked 3 (receivedEach 2 257 begun .tracked)
+  pub P11 : (receivedEach 2 257 freshState .base ≡ 3) × Tracked 3 (receivedEach 2 257 freshState .tracked)

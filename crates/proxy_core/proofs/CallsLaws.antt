@@ -16,31 +16,32 @@ use borrow.Author.Tests.{lt-ltb, le-ltb, ltb-true, le-leb, lt-leb, eq-eqb, ne-eq
 use Rattle.sequence_number.specs.Number.{top, isNumber, natOf, numberOf}
 use Rattle.sequence_number.proofs.Split.{split, split-lt, split-eq}
 use Rattle.sequence_number.proofs.NumberLaws.{number-is}
-use Rattle.proxy_record.specs.Entries.{Entry, blank, Rising, below, from, putIn, runLen}
-use Rattle.proxy_record.specs.State.{State, Ok, begun, changed}
+use Rattle.proxy_record.specs.Entries.{Entry, Rising, below, from, putIn, runLen}
+use Rattle.proxy_record.specs.State.{State, Ok, freshState, changed, cap}
+use Rattle.proxy_record.specs.Rows.{blank}
 use Rattle.proxy_record.proofs.EntriesLaws.{below-none, from-all, from-skip, from-drop, rising-from, rising-put, length-put, from-put, run-bound, from-run}
 use Rattle.sequence_number.specs.Outcome.{done, refused}
-use Rattle.proxy_core.specs.Calls.{noted, put, rebased, moveOn, discard, settled, cap, lowestGone, trim, capped, unforced, ended, got, lost, receivedAt, received, irrelevantAt, irrelevant, without, skipped, putEach, rangeAt, irrelevantRange}
+use Rattle.proxy_core.specs.Calls.{noted, put, rebased, moveOn, discard, settled, lowestGone, trim, capped, unforced, ended, got, unavailable, receivedAt, received, irrelevantAt, irrelevant, without, skipped, putEach, rangeAt, irrelevantRange}
 use Rattle.proxy_core.proofs.NatLaws.{nat-top}
 use Rattle.sequence_number.proofs.KindLaws.{rank-above}
 
 -- The rules
 
 pub ok-more : (m k : ℕ) (s : State) → m ≤ k → Ok m s → Ok k s
-ok-more m k s h o = record { few = omega (arith, o .few); rising = o .rising; low = o .low; high = o .high; known = o .known }
+ok-more m k s h o = record { few = omega (arith, o .few); rising = o .rising; low = o .low; high = o .high; lastBelow = o .lastBelow }
 
 ok-cond : (m : ℕ) (b : Bool) (x y : State) → Ok m x → Ok m y → Ok m (cond b x y)
 ok-cond m true x y p q = p
 ok-cond m false x y p q = q
 
-pub ok-begun : Ok cap begun
-ok-begun = record { few = omega arith; rising = tt; low = omega arith; high = omega arith; known = omega arith }
+pub ok-fresh : Ok cap freshState
+ok-fresh = record { few = omega arith; rising = tt; low = omega arith; high = omega arith; lastBelow = omega arith }
 
 pub ok-noted : (m n t : ℕ) (s : State) → n < top → Ok m s → Ok m (noted n t s)
 unfolding noted
 ok-noted m n t s h o =
     ok-cond m (ltb (s .last) n) _ _
-    (record { few = o .few; rising = o .rising; low = o .low; high = o .high; known = h }) o
+    (record { few = o .few; rising = o .rising; low = o .low; high = o .high; lastBelow = h }) o
 
 pub ok-put : (m : ℕ) (e : Entry) (s : State) → Ok m s → s .base ≤ e .number → e .number < top → Ok (suc m) (put e s)
 ok-put m e s o p q =
@@ -49,7 +50,7 @@ ok-put m e s o p q =
       rising = rising-put (s .base) top e (s .tracked) (o .rising) p q;
       low = o .low;
       high = o .high;
-      known = o .known;
+      lastBelow = o .lastBelow;
     }
 
 -- the base moves on, and what it passes goes
@@ -62,7 +63,7 @@ ok-advanced m s o =
       rising = rising-from (s .base) top _ (s .tracked) (o .rising);
       low = omega (arith, o .low);
       high = rw f (run-bound (s .base) top (s .base) (s .tracked) (o .rising) (o .high));
-      known = o .known;
+      lastBelow = o .lastBelow;
     }
 
 -- the lowest goes: what is left starts where the base is
@@ -76,7 +77,7 @@ ok-lowest m (x ∷ l) s e h o =
       rising = rw b (r .2);
       low = omega (arith, o .low);
       high = rw b (r .1);
-      known = o .known;
+      lastBelow = o .lastBelow;
     }
 
 length-lowest : (l : List Entry) (s : State) → s .tracked ≡ l → length (lowestGone l s .tracked) ≡ length l - 1
@@ -94,7 +95,7 @@ pub ok-capped : (m : ℕ) (s : State) → Ok m s → Ok cap (capped s)
 unfolding capped
 ok-capped m s o =
     ok-trim (length (s .tracked) - cap) cap s (omega arith)
-    (record { few = omega arith; rising = o .rising; low = o .low; high = o .high; known = o .known })
+    (record { few = omega arith; rising = o .rising; low = o .low; high = o .high; lastBelow = o .lastBelow })
 
 pub ok-ended : (m : ℕ) (s : State) → Ok m s → Ok cap (ended s .state)
 unfolding ended
@@ -193,7 +194,7 @@ irrelevant-old n s o h =
     let z : n ≡ s .base → ⊥ = λ e. omega arith in
     rw (lt-ltb n (s .base) h, settled-other cap n s o z, ended-few s (o .few))
 
-pub irrelevant-new : (n : ℕ) (s : State) → s .base ≤ n → irrelevantAt n s ≡ ended (settled n (put (lost n) s))
+pub irrelevant-new : (n : ℕ) (s : State) → s .base ≤ n → irrelevantAt n s ≡ ended (settled n (put (unavailable n) s))
 unfolding irrelevantAt
 irrelevant-new n s h = rw (le-ltb n (s .base) h)
 
@@ -201,7 +202,7 @@ pub ok-irrelevant-at : (n : ℕ) (s : State) → Ok cap s → n < top → Ok cap
 ok-irrelevant-at n s o h =
     ⊎-elim
     (λ a. rw (irrelevant-old n s o a) o)
-    (λ a. rw (irrelevant-new n s a) (ok-ended (suc cap) _ (ok-settled (lost n) s o h)))
+    (λ a. rw (irrelevant-new n s a) (ok-ended (suc cap) _ (ok-settled (unavailable n) s o h)))
     (split-lt n (s .base))
 
 pub ok-irrelevant : (n : ℤ) (s : State) → Ok cap s → Ok cap (irrelevant n s .state)
@@ -234,7 +235,7 @@ ok-cut b s o h j =
       rising = rising-from (s .base) top b (s .tracked) (o .rising);
       low = omega (arith, o .low);
       high = j;
-      known = o .known;
+      lastBelow = o .lastBelow;
     }
 
 pub ok-skipped : (a b : ℕ) (s : State) → Ok cap s → a ≤ s .base → b ≤ top → Ok cap (skipped a b s)
@@ -267,7 +268,7 @@ unfolding putEach
 ok-each zero m a s o h j = rw zero-add o
 ok-each (suc k) m a s o h j =
     let e : suc k + m ≡ k + suc m = omega arith in
-    rw e (ok-each k (suc m) (suc a) (put (lost a) s) (ok-put m (lost a) s o h (omega arith)) (omega arith) (omega arith))
+    rw e (ok-each k (suc m) (suc a) (put (unavailable a) s) (ok-put m (unavailable a) s o h (omega arith)) (omega arith) (omega arith))
 
 pub ok-range-at : (a b : ℕ) (s : State) → Ok cap s → a ≤ b → b ≤ top → Ok cap (rangeAt a b s .state)
 ok-range-at a b s o h j =
@@ -320,7 +321,7 @@ unfolding irrelevantAt
 base-irrelevant-at n s =
     split (ltb n (s .base))
     (λ e. rw e (omega (arith, base-settled n s, base-ended (settled n s))))
-    (λ e. rw e (omega (arith, base-settled n (put (lost n) s), base-ended (settled n (put (lost n) s)))))
+    (λ e. rw e (omega (arith, base-settled n (put (unavailable n) s), base-ended (settled n (put (unavailable n) s)))))
 
 pub base-irrelevant : (n : ℤ) (s : State) → s .base ≤ irrelevant n s .state .base
 unfolding irrelevant
@@ -336,7 +337,7 @@ base-skipped a b s =
 base-each : (k a : ℕ) (s : State) → putEach a k s .base ≡ s .base
 unfolding putEach
 base-each zero a s = refl
-base-each (suc k) a s = base-each k (suc a) (put (lost a) s)
+base-each (suc k) a s = base-each k (suc a) (put (unavailable a) s)
 
 pub base-range : (a b : ℤ) (s : State) → s .base ≤ irrelevantRange a b s .state .base
 unfolding irrelevantRange rangeAt

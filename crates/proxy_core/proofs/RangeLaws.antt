@@ -10,16 +10,17 @@ use lib.Seq.{length-take-le, getD-take, getD-append-add, drop-append-le, drop-ap
 use borrow.Author.Tests.{lt-ltb, le-ltb, le-leb, lt-leb}
 use Rattle.sequence_number.specs.Number.{top}
 use Rattle.sequence_number.proofs.Split.{split-lt}
-use Rattle.proxy_record.specs.Entries.{Entry, blank, Rising, below, from, rank, putIn}
-use Rattle.proxy_record.specs.State.{State, changed}
+use Rattle.proxy_record.specs.Entries.{Entry, Rising, below, from, putIn}
+use Rattle.proxy_record.specs.State.{State, changed, cap}
+use Rattle.proxy_record.specs.Rows.{blank, rank}
 use Rattle.proxy_record.proofs.EntriesLaws.{rising-weaken, below-none, from-skip, below-take, from-drop, rank-within, rising-from, rising-put}
 use Rattle.sequence_number.specs.Outcome.{done}
-use Rattle.proxy_core.specs.Calls.{put, cap, trim, capped, forced, ended, lost, putEach}
+use Rattle.proxy_core.specs.Calls.{put, trim, capped, forced, ended, unavailable, putEach}
 
 -- the k numbers from a on, not available
 unfoldable pub gone : ℕ → ℕ → List Entry
 gone a zero = []
-gone a (suc k) = lost a ∷ gone (suc a) k
+gone a (suc k) = unavailable a ∷ gone (suc a) k
 
 -- the table where the numbers from a until before b are not available, in one
 unfoldable pub rangeIn : ℕ → ℕ → List Entry → List Entry
@@ -91,25 +92,25 @@ from-from a n (e ∷ l) h =
     (split-lt (e .number) n))
     (split-lt (e .number) a)
 
-below-put : (a : ℕ) (l : List Entry) → below (suc a) (putIn (lost a) l) ≡ below a l ++ (lost a ∷ [])
+below-put : (a : ℕ) (l : List Entry) → below (suc a) (putIn (unavailable a) l) ≡ below a l ++ (unavailable a ∷ [])
 unfolding putIn below
 below-put a l =
     let z : a ≤ suc a = omega arith in
     let w : a < suc a = omega arith in
-    rw (below-append (suc a) (below a l) (lost a ∷ from (suc a) l), below-below a (suc a) l z, lt-ltb a (suc a) w, below-from (suc a) (suc a) l (omega arith))
+    rw (below-append (suc a) (below a l) (unavailable a ∷ from (suc a) l), below-below a (suc a) l z, lt-ltb a (suc a) w, below-from (suc a) (suc a) l (omega arith))
 
-from-put-above : (a b : ℕ) (l : List Entry) → a < b → from b (putIn (lost a) l) ≡ from b l
+from-put-above : (a b : ℕ) (l : List Entry) → a < b → from b (putIn (unavailable a) l) ≡ from b l
 unfolding putIn from
 from-put-above a b l h =
     let z : a ≤ b = omega arith in
-    rw (from-append b (below a l) (lost a ∷ from (suc a) l), from-below a b l z, lt-leb b a h, from-from (suc a) b l h)
+    rw (from-append b (below a l) (unavailable a ∷ from (suc a) l), from-below a b l z, lt-leb b a h, from-from (suc a) b l h)
 
 pub range-none : (n : ℕ) (l : List Entry) → Rising 0 top l → rangeIn n n l ≡ l
 unfolding rangeIn gone
 range-none n l r = rw (sub-self, ← below-take 0 top n l r, ← from-drop 0 top n l r) (take-append-drop (rank n l) l)
 
 -- the first number of a range put
-pub range-step : (a b : ℕ) (l : List Entry) → a < b → rangeIn (suc a) b (putIn (lost a) l) ≡ rangeIn a b l
+pub range-step : (a b : ℕ) (l : List Entry) → a < b → rangeIn (suc a) b (putIn (unavailable a) l) ≡ rangeIn a b l
 unfolding rangeIn gone
 range-step a b l h =
     let g : b - a ≡ suc (b - suc a) = omega arith in
@@ -194,8 +195,8 @@ unfolding putEach
 each-is zero a s r h = rw add-zero (ap (λ (l : List Entry). changed l s) (sym (range-none a (s .tracked) r)))
 each-is (suc k) a s r h =
     let e : suc a + k ≡ a + suc k = omega arith in
-    let q : Rising 0 top (putIn (lost a) (s .tracked)) = rising-put 0 top (lost a) (s .tracked) r (omega arith) (omega arith) in
-    each-is k (suc a) (put (lost a) s) q (omega arith)
+    let q : Rising 0 top (putIn (unavailable a) (s .tracked)) = rising-put 0 top (unavailable a) (s .tracked) r (omega arith) (omega arith) in
+    each-is k (suc a) (put (unavailable a) s) q (omega arith)
     ∙ ap (λ (l : List Entry). changed l s) (rw e (range-step a (a + suc k) (s .tracked) (omega arith)))
 
 pub each-more : (k a : ℕ) (s : State) → Rising 0 top (s .tracked) → a + k ≤ top → length (s .tracked) ≤ length (putEach a k s .tracked)

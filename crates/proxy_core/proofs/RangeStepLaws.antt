@@ -14,17 +14,18 @@ use mir.Syntax.{w64}
 use mir.Val.{SFits}
 use Rattle.sequence_number.specs.Number.{top, natOf}
 use Rattle.sequence_number.specs.Outcome.{done}
-use Rattle.proxy_record.specs.Entries.{Entry, blank, Rising, from, rank}
-use Rattle.proxy_record.specs.State.{State, Ok, changed}
+use Rattle.proxy_record.specs.Entries.{Entry, Rising, from}
+use Rattle.proxy_record.specs.State.{State, Ok, changed, cap}
 use Rattle.proxy_record.specs.Column.{Placed}
 use Rattle.proxy_record.specs.Record.{recordOf, stateOf, tracked, Good}
+use Rattle.proxy_record.specs.Rows.{blank, rank}
 use Rattle.proxy_record.proofs.EntriesLaws.{rising-any, from-drop, rank-within, rank-low, rising-from}
 use Rattle.proxy_record.proofs.PartLaws.{base-laid}
 use Rattle.proxy_record.proofs.RecordLaws.{kept-of, of-laid, state-of}
 use Rattle.proxy_record.proofs.RowLaws.{number-word, place-row}
 use Rattle.proxy_core.specs.declared.Report.{Report}
 use Rattle.proxy_core.specs.declared.Report.the-variants.{Done, Forced, Refused}
-use Rattle.proxy_core.specs.Calls.{put, rebased, moveOn, discard, cap, ended, forced, lost, skipped, putEach, rangeAt, irrelevantRange, Answered}
+use Rattle.proxy_core.specs.Calls.{put, rebased, moveOn, discard, ended, forced, unavailable, skipped, putEach, rangeAt, irrelevantRange, Answered}
 use Rattle.proxy_core.proofs.NatLaws.{nat-top}
 use Rattle.sequence_number.proofs.KindLaws.{rank-above}
 use Rattle.proxy_core.proofs.CallsLaws.{ok-put, ended-few, skipped-none, skipped-some, skipped-same, range-at-low, range-at-above, ok-range}
@@ -72,11 +73,11 @@ pub fill-none : (w : List ℕ) (a m : ℕ) → Good w → Filling w w a m 0
 fill-none w a m g = record { good = g; same = refl; rest = rw (add-zero, sub-zero) refl }
 
 pub fill-more : (w₀ w o : List ℕ) (a m i : ℕ) → Filling w₀ w a m i → i < m → stateOf w₀ .base ≤ a → a + m ≤ top → length (putEach a m (stateOf w₀) .tracked) ≤ cap
-    → o ≡ recordOf (put (lost (a + i)) (stateOf w)) → Filling w₀ o a m (i + 1)
+    → o ≡ recordOf (put (unavailable (a + i)) (stateOf w)) → Filling w₀ o a m (i + 1)
 unfolding putEach
 fill-more w₀ w o a m i f h j k q e =
-    let s = put (lost (a + i)) (stateOf w) in
-    let p : Ok 257 s = ok-put cap (lost (a + i)) (stateOf w) (f .good .ok) (omega (arith, f .same)) (omega arith) in
+    let s = put (unavailable (a + i)) (stateOf w) in
+    let p : Ok 257 s = ok-put cap (unavailable (a + i)) (stateOf w) (f .good .ok) (omega (arith, f .same)) (omega arith) in
     let t : stateOf o ≡ s = state-of s o (p .few) e in
     let n : suc (a + i) ≡ a + (i + 1) = omega arith in
     let d : m - i ≡ suc (m - (i + 1)) = omega arith in
@@ -84,7 +85,7 @@ fill-more w₀ w o a m i f h j k q e =
     let y : Rising 0 top (s .tracked) = rising-any (s .base) top (s .tracked) (p .rising) in
     let z : length (s .tracked) ≤ cap = omega (arith, each-more (m - (i + 1)) (a + (i + 1)) s y (omega arith), ap (λ (x : State). length (x .tracked)) c) in
     record {
-      good = good-of o s (record { few = z; rising = p .rising; low = p .low; high = p .high; known = p .known }) e;
+      good = good-of o s (record { few = z; rising = p .rising; low = p .low; high = p .high; lastBelow = p .lastBelow }) e;
       same = ap (λ (x : State). x .base) t ∙ f .same;
       rest = rw t c;
     }
@@ -133,7 +134,7 @@ module _ (w : List ℕ) (g : Good w) (a b x y T : ℕ) (h : stateOf w .base < a)
       (f : c ≡ suc (getD (rangeIn a b (tracked w)) (T - cap - 1) blank .number))
       (r : rangeIn d b (drop n (tracked w)) ≡ drop (T - cap) (rangeIn a b (tracked w))) where
     cut-ok : Ok cap (cutState w n c)
-    cut-ok = record { few = simp length-drop (omega (arith, g .ok .few)); rising = p; low = lo; high = omega arith; known = g .ok .known }
+    cut-ok = record { few = simp length-drop (omega (arith, g .ok .few)); rising = p; low = lo; high = omega arith; lastBelow = g .ok .lastBelow }
 
     rest : putEach d (b - d) (stateOf (set u 0 c)) ≡ rebased c (changed (drop (T - cap) (rangeIn a b (tracked w))) (stateOf w))
     rest =

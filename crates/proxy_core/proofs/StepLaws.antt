@@ -15,16 +15,17 @@ use borrow.Author.Tests.{lt-ltb, le-ltb, eq-eqb, ne-eqb}
 use Rattle.sequence_number.specs.Number.{top, isNumber, natOf, numberOf}
 use Rattle.sequence_number.specs.Outcome.{done}
 use Rattle.sequence_number.proofs.NumberLaws.{number-passed}
-use Rattle.proxy_record.specs.Entries.{Entry, Rising, blank, rank, from, runLen}
-use Rattle.proxy_record.specs.State.{State, Ok, changed}
+use Rattle.proxy_record.specs.Entries.{Entry, Rising, from, runLen}
+use Rattle.proxy_record.specs.State.{State, Ok, changed, cap}
 use Rattle.proxy_record.specs.Record.{GoodUpTo, column, recordOf, stateOf, tracked, Good}
+use Rattle.proxy_record.specs.Rows.{blank, rank}
 use Rattle.proxy_record.proofs.EntriesLaws.{rising-top, rising-from, from-all, from-drop, rank-within, run-within, run-bound, from-run}
 use Rattle.proxy_record.proofs.PartLaws.{base-at, last-at, base-laid, last-laid, time-laid}
 use Rattle.proxy_record.proofs.RecordLaws.{kept-of, good-kept, of-laid, state-of, good-is}
 use Rattle.proxy_record.proofs.RowLaws.{number-word}
 use Rattle.proxy_core.specs.declared.Report.{Report}
 use Rattle.proxy_core.specs.declared.Report.the-variants.{Done, Forced, Refused}
-use Rattle.proxy_core.specs.Calls.{Reply, noted, put, rebased, moveOn, discard, settled, cap, capped, ended, refuses, forced, got, receivedAt, received, irrelevant, Answered}
+use Rattle.proxy_core.specs.Calls.{Reply, noted, put, rebased, moveOn, discard, settled, capped, ended, refuses, forced, got, receivedAt, received, irrelevant, Answered}
 use Rattle.proxy_core.proofs.CallsLaws.{ok-more, ok-noted, ok-put, ok-advanced, ok-cut, settled-old, settled-base, settled-other, settled-first, ended-few, lowest-gone, noted-kept, received-is, ok-received, ok-irrelevant}
 
 -- what a call answers and leaves is what a reply says

@@ -10,7 +10,7 @@ use lib.Signed.{ltZ}
 use Rattle.sequence_number.specs.Number.{isNumber, natOf}
 use Rattle.sequence_number.specs.Outcome.{Outcome, refused, done}
 use Rattle.proxy_record.specs.Entries.{Entry, NotAvailable, Received, below, from, putIn, runLen}
-use Rattle.proxy_record.specs.State.{State, changed}
+use Rattle.proxy_record.specs.State.{State, changed, cap}
 use Rattle.proxy_record.specs.Record.{recordOf}
 use Rattle.proxy_core.specs.declared.Report.{Report}
 use Rattle.proxy_core.specs.declared.Report.the-variants.{Done, Forced, Refused}
@@ -43,16 +43,12 @@ settled n s = discard (cond (eqb n (s .base)) (moveOn s) s)
 
 -- The cap
 
--- "Never more than 256 numbers are tracked after a call"
-abbrev pub cap : ℕ
-cap = 256
-
 -- "the lowest n goes and the base becomes at least n + 1"
 abbrev pub lowestGone : List Entry → State → State
 lowestGone [] s = s
 lowestGone (x ∷ l) s = rebased (max (s .base) (suc (x .number))) (changed l s)
 
--- so often
+-- the same, k times
 abbrev pub trim : ℕ → State → State
 trim zero s = s
 trim (suc k) s = trim k (lowestGone (s .tracked) s)
@@ -91,8 +87,8 @@ refuses k s = record { state = s; report = refused k }
 abbrev pub got : ℕ → ℕ → Entry
 got n t = record { number = n; mark = Received t }
 
-abbrev pub lost : ℕ → Entry
-lost n = record { number = n; mark = NotAvailable }
+abbrev pub unavailable : ℕ → Entry
+unavailable n = record { number = n; mark = NotAvailable }
 
 -- "Received: put number and time over what was there"
 unfoldable pub receivedAt : ℕ → ℕ → State → Reply
@@ -105,7 +101,7 @@ received n t s = cond (isNumber n) (receivedAt (natOf n) t s) (refuses 4 s)
 
 -- "below the ack base nothing changes; else put not available"
 unfoldable pub irrelevantAt : ℕ → State → Reply
-irrelevantAt n s = ended (settled n (cond (ltb n (s .base)) s (put (lost n) s)))
+irrelevantAt n s = ended (settled n (cond (ltb n (s .base)) s (put (unavailable n) s)))
 
 unfoldable pub irrelevant : ℤ → State → Reply
 irrelevant n s = cond (isNumber n) (irrelevantAt (natOf n) s) (refuses 4 s)
@@ -123,7 +119,7 @@ skipped a b s = cond (ltb (s .base) b) (discard (moveOn (rebased b (without a b 
 -- "Else each is put not available, over what was there": the k numbers from a on
 unfoldable pub putEach : ℕ → ℕ → State → State
 putEach a zero s = s
-putEach a (suc k) s = putEach (suc a) k (put (lost a) s)
+putEach a (suc k) s = putEach (suc a) k (put (unavailable a) s)
 
 unfoldable pub rangeAt : ℕ → ℕ → State → Reply
 rangeAt a b s = ended (cond (leb a (s .base)) (skipped a b s) (putEach a (b - a) s))

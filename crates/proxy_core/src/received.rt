@@ -9,6 +9,7 @@ use proxy_record::BASE;
 use proxy_record::COUNT;
 use proxy_record::RECEIVED;
 
+// A number came at a time, below the base, at it or above it.
 fn received_any(t: &mut [u64], n: u64, time: u64) -> Report
     requires { ⌜ Good (now t) × (n < top) ⌝ }
     ensures { λ r. ⌜ Answered r (now (t .exit)) (receivedAt n time (stateOf (now (t .entry)))) ⌝ }
@@ -20,7 +21,7 @@ fn received_any(t: &mut [u64], n: u64, time: u64) -> Report
     base::track(t, n, RECEIVED, time)
 }
 
-// The same, with a short way for the number that is waited for while nothing is tracked.
+// The same as `received_any`, with a short way for the number that is waited for while nothing is tracked.
 pub fn received_at(t: &mut [u64], n: u64, time: u64) -> Report
     requires { ⌜ Good (now t) × (n < top) ⌝ }
     ensures { λ r. ⌜ Answered r (now (t .exit)) (receivedAt n time (stateOf (now (t .entry)))) ⌝ }

@@ -8,7 +8,8 @@ use mathlib.Core.List.{List, [], _∷_}
 use lib.ListN.{length, take, drop, getD, length-append}
 use borrow.Author.Tests.{lt-ltb, le-ltb, le-leb, lt-leb, eq-eqb, ne-eqb}
 use Rattle.sequence_number.proofs.Split.{split-lt, split-eq}
-use Rattle.proxy_record.specs.Entries.{Entry, blank, Rising, below, from, rank, putIn, runLen, insert, replace}
+use Rattle.proxy_record.specs.Entries.{Entry, Rising, below, from, putIn, runLen}
+use Rattle.proxy_record.specs.Rows.{blank, rank, insert, replace}
 
 pub rising-weaken : (lo lo′ hi : ℕ) (l : List Entry) → lo′ ≤ lo → Rising lo hi l → Rising lo′ hi l
 rising-weaken lo lo′ hi [] h r = tt

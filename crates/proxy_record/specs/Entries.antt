@@ -2,7 +2,6 @@
 use Prim.Native.Nat.{ℕ, suc, _<_, _≤_}
 use mathlib.Core.Bool.{cond}
 use mathlib.Core.List.{List, [], _∷_, _++_}
-use lib.ListN.{length, take, drop}
 use lib.Dec.{ltb, leb, eqb}
 
 -- "each received at a time or not available"
@@ -13,10 +12,6 @@ pub data Mark : Type 0 where
 pub record Entry : Type 0 where
   pub number : ℕ
   pub mark : Mark
-
--- what a slot that is not in use reads as
-abbrev pub blank : Entry
-blank = record { number = 0; mark = NotAvailable }
 
 -- the numbers are lo or more, below hi, and strictly rising
 abbrev pub Rising : ℕ → ℕ → List Entry → Type 0
@@ -32,10 +27,6 @@ unfoldable pub from : ℕ → List Entry → List Entry
 from n [] = []
 from n (x ∷ l) = cond (leb n (x .number)) (x ∷ from n l) (from n l)
 
--- how many entries have a number below n
-abbrev pub rank : ℕ → List Entry → ℕ
-rank n l = length (below n l)
-
 -- an entry put "over what was there"
 unfoldable pub putIn : Entry → List Entry → List Entry
 putIn e l = below (e .number) l ++ (e ∷ from (suc (e .number)) l)
@@ -44,10 +35,3 @@ putIn e l = below (e .number) l ++ (e ∷ from (suc (e .number)) l)
 unfoldable pub runLen : ℕ → List Entry → ℕ
 runLen b [] = 0
 runLen b (x ∷ l) = cond (eqb (x .number) b) (suc (runLen (suc b) l)) 0
-
--- e at a place, and what stood there and after it one further on; e over what stood there
-abbrev pub insert : ℕ → Entry → List Entry → List Entry
-insert at e l = take at l ++ (e ∷ drop at l)
-
-abbrev pub replace : ℕ → Entry → List Entry → List Entry
-replace at e l = take at l ++ (e ∷ drop (suc at) l)

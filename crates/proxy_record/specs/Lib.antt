@@ -1,4 +1,5 @@
 pub mod Entries
 pub mod State
-pub mod Column
 pub mod Record
+pub mod Column
+pub mod Rows

@@ -2,10 +2,9 @@
 use Prim.Native.Nat.{ℕ, zero, suc, _+_, _-_}
 use mathlib.Core.Path.{_≡_}
 use mathlib.Core.List.{List, [], _∷_, _++_, map}
-use lib.ListN.{length, getD}
+use lib.ListN.{length, getD, replicate}
 use Rattle.proxy_record.specs.Entries.{Entry, Mark, NotAvailable, Received}
-use Rattle.proxy_record.specs.State.{State, Ok}
-use Rattle.proxy_record.specs.Column.{zeros}
+use Rattle.proxy_record.specs.State.{State, cap, Ok}
 
 -- the length of a column, and where the three begin
 abbrev pub slots : ℕ
@@ -49,15 +48,15 @@ kindIn e = kindOf (e .mark)
 abbrev pub timeIn : Entry → ℕ
 timeIn e = timeOf (e .mark)
 
--- two words that are a mark's
-pub record Marks (k t : ℕ) : Type 0 where
-  pub kind : kindOf (markOf k t) ≡ k
-  pub time : timeOf (markOf k t) ≡ t
+-- words that are not in use
+unfoldable pub zeros : ℕ → List ℕ
+zeros n = replicate n 0
 
 -- a column: a word for each entry, and zeros in the slots that are not in use
 unfoldable pub column : (Entry → ℕ) → List Entry → List ℕ
 column f l = map f l ++ zeros (slots - length l)
 
+-- the words in their order
 unfoldable pub layout : ℕ → ℕ → ℕ → ℕ → List ℕ → List ℕ → List ℕ → List ℕ
 layout base count last time numbers kinds times = base ∷ count ∷ last ∷ time ∷ (numbers ++ (kinds ++ times))
 
@@ -81,7 +80,7 @@ stateOf w = record { base = getD w 0 0; tracked = rows (getD w 1 0) 0 w; last = 
 abbrev pub tracked : List ℕ → List Entry
 tracked w = stateOf w .tracked
 
--- words that are the record of a state that keeps the rules, with at most m tracked; `whole` and `count` follow from `made`, and are here for the callers
+-- words that are the record of a state that keeps the rules, with at most m tracked. `whole` follows from `made` and `ok` (m is at most 257), `count` from `rows`: they are here for the callers
 pub record GoodUpTo (m : ℕ) (w : List ℕ) : Type 0 where
   pub made : w ≡ recordOf (stateOf w)
   pub whole : length w ≡ size
@@ -90,4 +89,4 @@ pub record GoodUpTo (m : ℕ) (w : List ℕ) : Type 0 where
 
 -- the record's own rules: the one premise of a call, kept by every call
 abbrev pub Good : List ℕ → Type 0
-Good w = GoodUpTo 256 w
+Good w = GoodUpTo cap w

@@ -13,17 +13,21 @@ pub record State : Type 0 where
   pub time : ℕ
 
 -- "ack base (1) .. last received number (0)": nothing heard yet
-abbrev pub begun : State
-begun = record { base = 1; tracked = []; last = 0; time = 0 }
+abbrev pub freshState : State
+freshState = record { base = 1; tracked = []; last = 0; time = 0 }
 
 -- a state with other tracked numbers
 abbrev pub changed : List Entry → State → State
 changed l s = record { base = s .base; tracked = l; last = s .last; time = s .time }
 
--- the rules: at most m tracked (256 after a call), strictly rising, none below the base, the base from 1 to 2^63 - 1, and only numbers that a call takes
+-- "Never more than 256 numbers are tracked after a call"
+abbrev pub cap : ℕ
+cap = 256
+
+-- the rules: at most m tracked (`cap` after a call), strictly rising, none below the base, the base from 1 to 2^63 - 1, and only numbers that a call takes
 pub record Ok (m : ℕ) (s : State) : Type 0 where
   pub few : length (s .tracked) ≤ m
   pub rising : Rising (s .base) top (s .tracked)
   pub low : 1 ≤ s .base
   pub high : s .base ≤ top
-  pub known : s .last < top
+  pub lastBelow : s .last < top

@@ -1,5 +1,5 @@
 // The record that a caller keeps for one writer, as lent words: where its parts lie, and the changes of its table.
-// A reader of the calls (crate `writer_proxy`) needs only the contracts of `rows`.
+// The calls (crates `proxy_core`, `writer_proxy`) use `rows` for whole records, and `column` for the words of one column or of all.
 pub mod column;
 pub mod rows;
 

@@ -16,7 +16,7 @@ use Rattle.number_set.specs.Walk.{walkSet, inOrder}
 use Rattle.sequence_number.specs.Number.{numberOf}
 use Rattle.sequence_number.proofs.KindLaws.{Lawful, sequence-lawful, fragment-lawful}
 use Rattle.proxy_record.specs.Record.{recordOf, stateOf, Good}
-use Rattle.proxy_record.specs.State.{begun}
+use Rattle.proxy_record.specs.State.{freshState}
 use Rattle.proxy_core.specs.Calls.{Forcing, Reply, received, irrelevant, irrelevantRange, upTo}
 use Rattle.writer_proxy.specs.SetUp.{setUp}
 use Rattle.writer_proxy.specs.Missing.{listed}
@@ -126,7 +126,7 @@ export-table =
       measure-fragment-number-set = set-measured fragment;
       proxy-set-up = λ w w′ r a.
           record {
-            exactly = rw (a .0) (as-number (setUp w .report) (shorter w (recordOf begun) ∷ []) refl (set-up-rows w .exactly));
+            exactly = rw (a .0) (as-number (setUp w .report) (shorter w (recordOf freshState) ∷ []) refl (set-up-rows w .exactly));
             untouched = λ n z. a .1 ∙ set-up-rows w .untouched n (ap verdict (by-number (setUp w .report) n (rw (a .0) at z)));
           };
       proxy-received-changes-add = λ n time f. replies (λ w. received n time (stateOf w)) (notTaken n ∷ []) refl (λ w g. add-rows w g n time f);

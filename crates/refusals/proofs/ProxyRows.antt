@@ -1,28 +1,29 @@
 -- The rows of the writer proxy's calls. Assumes nothing.
-use Prim.Native.Nat.{ℕ, _-_, _^_}
+use Prim.Native.Nat.{ℕ, _<_}
+use native.Mathlib.Omega.{arith}
 use mathlib.Core.Path.{_≡_, refl, sym, ap, subst, _∙_}
 use mathlib.Core.Bool.{Bool, true, false}
-use mathlib.Core.Logic.{_⊎_, inl, inr, ⊎-elim}
+use mathlib.Core.Logic.{inl, inr, ⊎-elim, _↔_}
 use mathlib.Core.List.{List, [], _∷_}
 use lib.ListN.{length}
 use lib.Dec.{T, eqb}
-use lib.IntN.{ℤ, pos}
+use lib.IntN.{ℤ, pos, negsuc}
 use lib.Signed.{ltZ, ltZ-yes, _<ℤ_}
 use mir.Syntax.{w64}
 use mir.Val.{SFits}
-use borrow.Author.Tests.{eqb-true, eqb-false}
+use borrow.Author.Tests.{lt-ltb, le-ltb, eqb-true, eqb-false}
 use Rattle.sequence_number.specs.Outcome.{Outcome}
 use Rattle.sequence_number.specs.Outcome as outcome
 use Rattle.sequence_number.specs.Number.{top, isNumber, natOf}
-use Rattle.proxy_record.specs.State.{State, begun}
+use Rattle.sequence_number.proofs.Split.{split-lt}
+use Rattle.proxy_record.specs.State.{State, freshState}
 use Rattle.proxy_record.specs.Record.{recordOf, stateOf, Good, size}
 use Rattle.proxy_core.proofs.StepLaws.{good-of}
 use Rattle.proxy_core.specs.Calls.{Reply, received, receivedAt, irrelevant, irrelevantAt, irrelevantRange, rangeAt}
-use Rattle.proxy_core.proofs.CallsLaws.{ok-begun}
+use Rattle.proxy_core.proofs.CallsLaws.{ok-fresh}
 use Rattle.writer_proxy.specs.SetUp.{setUp, Begun}
 use Rattle.writer_proxy.specs.Missing.{missingOf, listed, After}
-use Rattle.writer_proxy.specs.Statements.{NotTaken}
-use Rattle.writer_proxy.proofs.Refusals.{not-taken, received-accepted, irrelevant-accepted, range-accepted, end-top, received-refused-same, irrelevant-refused-same, range-refused-same, missing-refused-same, set-up-refused-same}
+use Rattle.writer_proxy.proofs.Refusals.{received-accepted, irrelevant-accepted, range-accepted, end-top, received-refused-same, irrelevant-refused-same, range-refused-same, missing-refused-same, set-up-refused-same}
 use Rattle.refusals.specs.RefusalTable.{Row, Verdict, refused, Exactly, Refuses, verdict, notTaken, rangeRows, missingRows, shorter}
 use Rattle.refusals.proofs.RowLaws.{said-refused, said-accepted, none-left, asks, asks-not, asks-less, clash}
 
@@ -65,21 +66,27 @@ below-fails a b e h = clash (ltZ a b) (test-true (ltZ a b) (h .lt)) e
 
 -- ---- numbers that a call takes
 
-abbrev Names : ℤ → Type 0
-Names n = (n <ℤ pos 1) ⊎ (n ≡ pos (2 ^ 63 - 1))
-
-names : (n : ℤ) → NotTaken n → Names n
-names n = ⊎-elim (λ e. inl (below-holds n (pos 1) e)) (λ e. inr e)
-
-named : (n : ℤ) → Names n → NotTaken n
-named n = ⊎-elim (λ h. inl (test-true (ltZ n (pos 1)) (h .lt))) (λ e. inr e)
+-- row 4 over an i64, by the test that the calls make
+not-taken : (n : ℤ) → SFits w64 n → (isNumber n ≡ false) ↔ notTaken n .condition
+not-taken (negsuc n) f = (λ h. inl (below-holds (negsuc n) (pos 1) refl), λ h. refl)
+not-taken (pos n) f =
+    ⊎-elim
+    (λ a.
+    ⊎-elim
+    (λ b.
+    rw (lt-ltb 0 n a, lt-ltb n top b)
+    (λ h. absurd (clash true refl h), ⊎-elim (λ h. absurd (below-fails (pos n) (pos 1) (le-ltb n 1 a) h)) (λ (h : pos n ≡ pos top). let z : n ≡ top = cc in absurd (omega arith))))
+    (λ b. let z : n ≡ top = omega (arith, f .sfits) in rw (lt-ltb 0 n a, le-ltb n top b) (λ h. inr (ap pos z), λ h. refl))
+    (split-lt n top))
+    (λ a. let z : n < 1 = omega arith in rw (le-ltb 0 n a) (λ h. inl (below-holds (pos n) (pos 1) (lt-ltb n 1 z)), λ h. refl))
+    (split-lt 0 n)
 
 module _ (n : ℤ) (f : SFits w64 n) where
-  pub row-holds : isNumber n ≡ false → Names n
-  row-holds e = names n (not-taken n f .0 e)
+  pub row-holds : isNumber n ≡ false → notTaken n .condition
+  row-holds = not-taken n f .0
 
-  pub row-fails : isNumber n ≡ true → Names n → ⊥
-  row-fails e h = clash (isNumber n) e (not-taken n f .1 (named n h))
+  pub row-fails : isNumber n ≡ true → notTaken n .condition → ⊥
+  row-fails e h = clash (isNumber n) e (not-taken n f .1 h)
 
 module _ (w : List ℕ) (g : Good w) where
   pub add-rows : (n : ℤ) (time : ℕ) → SFits w64 n → Refuses (replied (received n time (stateOf w))) (notTaken n ∷ []) (recordOf (received n time (stateOf w) .state) ≡ w)
@@ -124,11 +131,11 @@ module _ (start end : ℤ) (s : State) (out : List ℤ) where
 
 -- ---- set-up
 
-pub set-up-rows : (w : List ℕ) → Refuses (verdict (setUp w .report)) (shorter w (recordOf begun) ∷ []) (setUp w .words ≡ w)
+pub set-up-rows : (w : List ℕ) → Refuses (verdict (setUp w .report)) (shorter w (recordOf freshState) ∷ []) (setUp w .words ≡ w)
 unfolding setUp
 set-up-rows w =
     let says : Begun → Verdict = λ x. verdict (x .report) in
-    let long : length (recordOf begun) ≡ size = good-of (recordOf begun) begun ok-begun refl .whole in
+    let long : length (recordOf freshState) ≡ size = good-of (recordOf freshState) freshState ok-fresh refl .whole in
     record {
       exactly = rw long (asks-less says refl (length w) size (λ h. none-left));
       untouched = λ n e. set-up-refused-same w n (said-refused (setUp w .report) n e);

@@ -11,7 +11,7 @@ use Rattle.number_set.specs.Make.{sequenceSetMade, fragmentSetMade}
 use Rattle.sequence_number.proofs.KindLaws.{sequence-lawful, fragment-lawful}
 use Rattle.refusals.specs.RefusalTable.{Order, RefusalTable, shorter, notTaken, rangeRows, missingRows, PastSequence, PastFragment}
 use mathlib.Core.List.{[], _∷_}
-use Rattle.proxy_record.specs.State.{begun}
+use Rattle.proxy_record.specs.State.{freshState}
 use Rattle.proxy_record.specs.Record.{stateOf, recordOf}
 use Rattle.refusals.proofs.ProxyRows.{told-as, add-rows, irrelevant-rows, range-rows, missing-rows, set-up-rows}
 use Rattle.refusals.proofs.AssemblerRows as assembler
@@ -61,7 +61,7 @@ refusal-table =
       len-serialized = (set-measured sequence, set-measured fragment);
       from-base-and-set = (set-made sequence sequenceSetMade (λ r. r .refusal) sequence-made, set-made fragment fragmentSetMade (λ r. r .refusal) fragment-made);
       iter = (set-walked sequence PastSequence sequence-over sequence-within, set-walked fragment PastFragment fragment-over fragment-within);
-      proxy-set-up = λ w w′ r. told-as (shorter w (recordOf begun) ∷ []) (set-up-rows w);
+      proxy-set-up = λ w w′ r. told-as (shorter w (recordOf freshState) ∷ []) (set-up-rows w);
       received-changes-add = λ w w′ n time r g f. told-as (notTaken n ∷ []) (add-rows w g n time f);
       set-irrelevant-change = λ w w′ n r g f. told-as (notTaken n ∷ []) (irrelevant-rows w g n f);
       irrelevant-changes-range = λ w w′ a b r g. told-as (rangeRows a b) (range-rows w g a b);

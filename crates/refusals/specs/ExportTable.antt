@@ -17,7 +17,7 @@ use Rattle.number_set.specs.NumberSet.{NumberSet, members}
 use Rattle.number_set.specs.SetWire.{Taken, setBytes, readSet, writeSet, measureSet}
 use Rattle.number_set.specs.Make.{makeSet}
 use Rattle.number_set.specs.Walk.{walkSet, inOrder}
-use Rattle.proxy_record.specs.State.{begun}
+use Rattle.proxy_record.specs.State.{freshState}
 use Rattle.proxy_record.specs.Record.{recordOf, stateOf, Good}
 use Rattle.proxy_core.specs.Calls.{Reply, received, irrelevant, irrelevantRange, upTo}
 use Rattle.writer_proxy.specs.SetUp.{setUp}
@@ -86,7 +86,7 @@ pub record ExportTable : Type 0 where
   pub measure-sequence-number-set : MeasureSetOut sequence
   pub measure-fragment-number-set : MeasureSetOut fragment
   pub proxy-set-up : (w w′ : List ℕ) (r : ℕ) → (r ≡ refusal (setUp w .report)) × (w′ ≡ setUp w .words)
-      → Refuses (numbered r) (shorter w (recordOf begun) ∷ []) (w′ ≡ w)
+      → Refuses (numbered r) (shorter w (recordOf freshState) ∷ []) (w′ ≡ w)
   pub proxy-received-changes-add : (n : ℤ) (time : ℕ) → SFits w64 n → ReplyOut (λ w. received n time (stateOf w)) (notTaken n ∷ [])
   pub proxy-set-irrelevant-change : (n : ℤ) → SFits w64 n → ReplyOut (λ w. irrelevant n (stateOf w)) (notTaken n ∷ [])
   pub proxy-irrelevant-changes-range : (a b : ℤ) → ReplyOut (λ w. irrelevantRange a b (stateOf w)) (rangeRows a b)

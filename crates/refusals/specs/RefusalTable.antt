@@ -35,7 +35,7 @@ use Rattle.sequence_number.specs.declared.ByteOrder.{ByteOrder}
 use Rattle.sequence_number.specs.declared.wire.Written.{Written}
 use Rattle.number_set.specs.declared.set.Measured.{Measured}
 use Rattle.number_set.specs.declared.set.Walked.{Walked}
-use Rattle.proxy_record.specs.State.{State, begun}
+use Rattle.proxy_record.specs.State.{State, freshState}
 use Rattle.proxy_record.specs.Record.{recordOf, stateOf, Good}
 use Rattle.proxy_core.specs.Calls.{reported, received, irrelevant, irrelevantRange, upTo}
 use Rattle.proxy_core.specs.Calls as proxy
@@ -344,7 +344,7 @@ pub record RefusalTable : Type 1 where
   pub iter : WalkSet sequence PastSequence × WalkSet fragment PastFragment
   -- writer_proxy; w is the lent record
   pub proxy-set-up : (w w′ : List ℕ) (r : Report) → (reported r ≡ setUp w .report) × (w′ ≡ setUp w .words)
-      → Refuses (verdict (reported r)) (shorter w (recordOf begun) ∷ []) (w′ ≡ w)
+      → Refuses (verdict (reported r)) (shorter w (recordOf freshState) ∷ []) (w′ ≡ w)
   pub received-changes-add : (w w′ : List ℕ) (n : ℤ) (time : ℕ) (r : Report) → Good w → SFits w64 n → proxy.Answered r w′ (received n time (stateOf w))
       → Refuses (verdict (reported r)) (notTaken n ∷ []) (w′ ≡ w)
   pub set-irrelevant-change : (w w′ : List ℕ) (n : ℤ) (r : Report) → Good w → SFits w64 n → proxy.Answered r w′ (irrelevant n (stateOf w))

@@ -2,7 +2,7 @@
 use mathlib.Core.Path.{_≡_, refl}
 use Prim.Native.Nat.{ℕ}
 use mathlib.Core.List.{List, [], _∷_}
-use Rattle.proxy_record.specs.State.{begun}
+use Rattle.proxy_record.specs.State.{freshState}
 use Rattle.proxy_record.specs.Entries.{below, from, putIn, runLen}
 use Rattle.proxy_core.specs.Calls.{noted, moveOn, discard, settled, capped, ended, receivedAt, received, without, skipped, putEach, rangeAt, irrelevantRange}
 use Rattle.writer_proxy.specs.Queries.{look}
@@ -37,6 +37,6 @@ fifth = 48 ∷ 51 ∷ 48 ∷ 48 ∷ 48 ∷ 48 ∷ 48 ∷ 48 ∷ 48 ∷ 48 ∷ 48
 unfoldable pub answers : List ℕ
 answers = 49 ∷ 32 ∷ 48 ∷ 32 ∷ 50 ∷ 10 ∷ 49 ∷ 32 ∷ 48 ∷ 32 ∷ 50 ∷ 10 ∷ 51 ∷ 32 ∷ 48 ∷ 32 ∷ 50 ∷ 32 ∷ 50 ∷ 32 ∷ 50 ∷ 32 ∷ 52 ∷ 10 ∷ 50 ∷ 32 ∷ 48 ∷ 32 ∷ 52 ∷ 10 ∷ 51 ∷ 32 ∷ 48 ∷ 32 ∷ 52 ∷ 32 ∷ 49 ∷ 32 ∷ 52 ∷ 10 ∷ []
 
-pub worked-example : replayed (first ∷ second ∷ third ∷ fourth ∷ fifth ∷ []) begun ≡ answers
+pub worked-example : replayed (first ∷ second ∷ third ∷ fourth ∷ fifth ∷ []) freshState ≡ answers
 unfolding first second third fourth fifth answers replayed blank stepOf parsed frameOf allHex digitOf valueAt digits digitsWithin spaced received receivedAt noted settled moveOn discard ended capped irrelevantRange rangeAt skipped without putEach listed missing look below from putIn runLen
 worked-example = refl

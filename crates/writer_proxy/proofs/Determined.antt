@@ -105,6 +105,7 @@ pub missing-determined : (start end : ℤ) (w : List ℕ) (out : List ℤ) (r r�
     → (listing r′ ≡ listed start end (stateOf w) out .answer) × (o′ ≡ listed start end (stateOf w) out .output) → (r ≡ r′) × (o ≡ o′)
 missing-determined start end w out r r′ a b = (said-determined listing list-back list-back-said r r′ (a .0) (b .0), equal-determined (a .1) (b .1))
 
+-- the acknack counter; the promise of `new` is an equation, and `equal-determined` serves it as it is
 pub count-determined : (c : AckNackCounter) {r r′ : HandedOut} → r ≡ handedOut c → r′ ≡ handedOut c → r ≡ r′
 count-determined c = equal-determined
 

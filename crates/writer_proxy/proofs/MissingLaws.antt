@@ -17,13 +17,13 @@ use borrow.Author.Tests.{lt-ltb, le-ltb, eq-eqb, ne-eqb}
 use Rattle.sequence_number.specs.Number.{top, natOf}
 use Rattle.sequence_number.specs.Lent.{over}
 use Rattle.sequence_number.proofs.Split.{split, split-eq}
-use Rattle.proxy_record.specs.Entries.{Entry, blank, Rising, rank}
-use Rattle.proxy_record.specs.State.{State}
+use Rattle.proxy_record.specs.Entries.{Entry, Rising}
+use Rattle.proxy_record.specs.State.{State, cap}
 use Rattle.proxy_record.specs.Column.{Placed}
 use Rattle.proxy_record.specs.Record.{stateOf, tracked, Good}
+use Rattle.proxy_record.specs.Rows.{blank, rank}
 use Rattle.proxy_record.proofs.EntriesLaws.{rising-any}
 use Rattle.proxy_record.proofs.RowLaws.{number-word, place-row}
-use Rattle.proxy_core.specs.Calls.{cap}
 use Rattle.proxy_core.proofs.NatLaws.{nat-top, nat-passed}
 use Rattle.proxy_core.proofs.StepLaws.{base-word}
 use Rattle.sequence_number.specs.Outcome.{refused, done}

@@ -19,11 +19,11 @@ use Rattle.sequence_number.specs.Lent.{over}
 use Rattle.sequence_number.specs.Outcome.{done}
 use Rattle.sequence_number.proofs.Split.{split}
 use Rattle.proxy_record.specs.Entries.{Entry, Mark, NotAvailable}
-use Rattle.proxy_record.specs.State.{State, Ok, begun}
+use Rattle.proxy_record.specs.State.{State, Ok, freshState, cap}
 use Rattle.proxy_record.specs.Record.{recordOf, stateOf}
 use Rattle.proxy_record.proofs.RecordLaws.{state-of}
-use Rattle.proxy_core.specs.Calls.{put, moveOn, discard, cap, forced, ended, lost, received, irrelevant, putEach, irrelevantRange, upTo}
-use Rattle.proxy_core.proofs.CallsLaws.{ok-begun, ok-received, ok-irrelevant, range-at-above, ok-range, base-received, base-irrelevant, base-range}
+use Rattle.proxy_core.specs.Calls.{put, moveOn, discard, forced, ended, unavailable, received, irrelevant, putEach, irrelevantRange, upTo}
+use Rattle.proxy_core.proofs.CallsLaws.{ok-fresh, ok-received, ok-irrelevant, range-at-above, ok-range, base-received, base-irrelevant, base-range}
 use Rattle.writer_proxy.specs.Queries.{look, given, ignored, statusOf, lastOf}
 use Rattle.writer_proxy.specs.Missing.{missing, lowest, missingOf, listed}
 use Rattle.writer_proxy.specs.Counter.{nextCount, fresh, handedOut}
@@ -35,8 +35,8 @@ use Rattle.writer_proxy.proofs.CounterLaws.{next-wraps}
 use Rattle.writer_proxy.proofs.Refusals.{end-top, start-low, end-high, crossed}
 
 -- "their own rules hold, shown kept by every call": among them "Never more than 256 numbers are tracked after a call"
-pub set-up-keeps : Ok cap begun
-set-up-keeps = ok-begun
+pub set-up-keeps : Ok cap freshState
+set-up-keeps = ok-fresh
 
 pub received-keeps-rules : (n : ℤ) (t : ℕ) (s : State) → Ok cap s → Ok cap (received n t s .state)
 received-keeps-rules = ok-received
@@ -97,7 +97,7 @@ ignore-exact (pos n) s =
     (λ e. rw e (λ h. inl refl, λ h. refl))
     (λ e. rw e (λ h. inr (has-tracked n (s .tracked) .0 h), ⊎-elim (λ h. let z : _≡_ {A = ℕ} 0 1 = cc in absurd (omega arith)) (λ h. has-tracked n (s .tracked) .1 h)))
 
--- The missing list, "from the larger of heartbeat start and ack base through that end"
+-- The missing list, from max(heartbeat start, ack base) through heartbeat end
 module _ (start end : ℤ) (s : State) (o : Ok cap s) where
   -- exactly the untracked numbers
   pub missing-exact : (n : ℕ) → List·Memᴰ n (missingOf start end s) ↔ ((s .base ≤ n) × (leZ start (pos n) ≡ true) × (leZ (pos n) end ≡ true) × (Tracked n (s .tracked) → ⊥))
@@ -136,7 +136,7 @@ pub range-is-puts : (a b : ℤ) (s : State) → ltZ b a ≡ false → s .base < 
 unfolding irrelevantRange
 range-is-puts a b s e h = rw e (range-at-above (natOf a) (natOf b) s h)
 
-pub puts-one-by-one : (a k : ℕ) (s : State) → (putEach a 0 s ≡ s) × (putEach a (suc k) s ≡ putEach (suc a) k (put (lost a) s))
+pub puts-one-by-one : (a k : ℕ) (s : State) → (putEach a 0 s ≡ s) × (putEach a (suc k) s ≡ putEach (suc a) k (put (unavailable a) s))
 unfolding putEach
 puts-one-by-one a k s = (refl, refl)
 

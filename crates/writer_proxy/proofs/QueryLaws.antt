@@ -12,14 +12,14 @@ use lib.IntN.{ℤ, pos, negsuc}
 use borrow.Author.Tests.{lt-ltb, le-ltb, eq-eqb, ne-eqb}
 use Rattle.sequence_number.specs.Number.{top, natOf}
 use Rattle.sequence_number.proofs.Split.{split-lt, split-eq}
-use Rattle.proxy_record.specs.Entries.{Mark, Entry, blank, Rising, below, rank, NotAvailable, Received}
-use Rattle.proxy_record.specs.State.{State, Ok}
+use Rattle.proxy_record.specs.Entries.{Mark, Entry, Rising, below, NotAvailable, Received}
+use Rattle.proxy_record.specs.State.{State, Ok, cap}
 use Rattle.proxy_record.specs.Column.{Placed}
 use Rattle.proxy_record.specs.Record.{markOf, stateOf, tracked, Good}
+use Rattle.proxy_record.specs.Rows.{blank, rank}
 use Rattle.proxy_record.proofs.EntriesLaws.{below-none}
 use Rattle.proxy_record.proofs.RecordLaws.{mark-same}
 use Rattle.proxy_record.proofs.RowLaws.{kind-word, time-word, number-word, place-row}
-use Rattle.proxy_core.specs.Calls.{cap}
 use Rattle.writer_proxy.specs.declared.query.Status.{Status}
 use Rattle.writer_proxy.specs.Queries.{look, given, has, ignored, shown, statusOf, lastOf}
 

@@ -1,40 +1,24 @@
 -- Laws for the refusals: which row a call falls under. Assumes nothing.
-use Prim.Native.Nat.{ℕ, suc, _-_, _<_, _≤_, max}
+use Prim.Native.Nat.{ℕ, suc, _-_, _≤_, max}
 use native.Mathlib.Omega.{arith}
-use mathlib.Core.Logic.{inl, inr, ⊎-elim, _↔_}
-use mathlib.Core.Path.{_≡_, refl, sym, ap}
+use mathlib.Core.Logic.{_↔_}
+use mathlib.Core.Path.{_≡_, refl, ap}
 use mathlib.Core.Bool.{Bool, true, false, cond}
 use mathlib.Core.List.{List}
 use lib.ListN.{length}
 use lib.Dec.{ltb, leb, eqb}
 use lib.IntN.{ℤ, pos, negsuc}
 use lib.Signed.{ltZ, leZ}
-use mir.Syntax.{w64}
-use mir.Val.{SFits}
-use borrow.Author.Tests.{lt-ltb, le-ltb, ltb-true, le-leb, leb-true}
+use borrow.Author.Tests.{ltb-true, le-leb, leb-true}
 use Rattle.sequence_number.specs.Number.{top, isNumber, natOf}
 use Rattle.sequence_number.specs.Outcome.{refused, refusal}
-use Rattle.sequence_number.proofs.Split.{split, split-lt}
-use Rattle.proxy_record.specs.State.{State}
+use Rattle.sequence_number.proofs.Split.{split}
+use Rattle.proxy_record.specs.State.{State, cap}
 use Rattle.proxy_record.specs.Record.{size}
-use Rattle.proxy_core.specs.Calls.{Reply, noted, put, settled, cap, ended, refuses, got, lost, receivedAt, received, irrelevantAt, irrelevant, skipped, putEach, rangeAt, irrelevantRange}
+use Rattle.proxy_core.specs.Calls.{Reply, noted, put, settled, ended, refuses, got, unavailable, receivedAt, received, irrelevantAt, irrelevant, skipped, putEach, rangeAt, irrelevantRange}
 use Rattle.proxy_core.proofs.CallsLaws.{ended-accepted}
 use Rattle.writer_proxy.specs.SetUp.{setUp}
 use Rattle.writer_proxy.specs.Missing.{missingOf, listed}
-use Rattle.writer_proxy.specs.Statements.{NotTaken}
-
--- row 4 over an i64
-pub not-taken : (n : ℤ) → SFits w64 n → (isNumber n ≡ false) ↔ NotTaken n
-not-taken (negsuc n) f = (λ h. inl refl, λ h. refl)
-not-taken (pos n) f =
-    ⊎-elim
-    (λ a.
-    ⊎-elim
-    (λ b. rw (lt-ltb 0 n a, lt-ltb n top b, le-ltb n 1 a) (λ h. let z : _≡_ {A = ℕ} 0 1 = cc in absurd (omega arith), ⊎-elim (λ h. let z : _≡_ {A = ℕ} 0 1 = cc in absurd (omega arith)) (λ h. let z : n ≡ top = cc in absurd (omega arith))))
-    (λ b. let z : n ≡ top = omega (arith, f .sfits) in rw (lt-ltb 0 n a, le-ltb n top b) (λ h. inr (ap pos z), λ h. refl))
-    (split-lt n top))
-    (λ a. let z : n < 1 = omega arith in rw (le-ltb 0 n a, lt-ltb n 1 z) (λ h. inl refl, λ h. refl))
-    (split-lt 0 n)
 
 -- a call that is refused by one test, and goes on to the cap otherwise: refused, it changes nothing
 module _ (j : ℕ) (s : State) (x : Reply) (h : (k : ℕ) → x .report ≡ refused k → ⊥) where
@@ -52,7 +36,7 @@ received-accepted n t s k = ended-accepted (settled n (put (got n t) (noted n t 
 
 pub irrelevant-accepted : (n : ℕ) (s : State) (k : ℕ) → irrelevantAt n s .report ≡ refused k → ⊥
 unfolding irrelevantAt
-irrelevant-accepted n s k = ended-accepted (settled n (cond (ltb n (s .base)) s (put (lost n) s))) k
+irrelevant-accepted n s k = ended-accepted (settled n (cond (ltb n (s .base)) s (put (unavailable n) s))) k
 
 pub range-accepted : (a b : ℕ) (s : State) (k : ℕ) → rangeAt a b s .report ≡ refused k → ⊥
 unfolding rangeAt

@@ -11,7 +11,7 @@ use borrow.Author.Tests.{lt-ltb, le-ltb, le-leb, lt-leb, eq-eqb, ne-eqb}
 use Rattle.sequence_number.proofs.Split.{split-lt, split-eq}
 use Rattle.proxy_record.specs.Entries.{Entry, below, from, putIn, NotAvailable}
 use Rattle.proxy_record.specs.State.{State}
-use Rattle.proxy_core.specs.Calls.{put, lost, putEach}
+use Rattle.proxy_core.specs.Calls.{put, unavailable, putEach}
 use Rattle.writer_proxy.specs.Queries.{look}
 
 look-below : (m n : ℕ) (l : List Entry) → m < n → look m (below n l) ≡ look m l
@@ -94,16 +94,16 @@ unfolding putEach
 look-each-out zero a m s h = refl
 look-each-out (suc k) a m s h =
     let z : a ≡ m → ⊥ = λ e. ⊎-elim (λ p. omega arith) (λ p. omega arith) h in
-    look-each-out k (suc a) m (put (lost a) s) (⊎-elim (λ p. inl (omega arith)) (λ p. inr (omega arith)) h)
-    ∙ look-put m (lost a) (s .tracked) ∙ rw (ne-eqb a m z)
+    look-each-out k (suc a) m (put (unavailable a) s) (⊎-elim (λ p. inl (omega arith)) (λ p. inr (omega arith)) h)
+    ∙ look-put m (unavailable a) (s .tracked) ∙ rw (ne-eqb a m z)
 
 pub look-each-in : (k a m : ℕ) (s : State) → a ≤ m → m < a + k → look m (putEach a k s .tracked) ≡ some NotAvailable
 unfolding putEach
 look-each-in zero a m s h j = absurd (omega arith)
 look-each-in (suc k) a m s h j =
     ⊎-elim
-    (λ p. look-each-in k (suc a) m (put (lost a) s) p (omega arith))
+    (λ p. look-each-in k (suc a) m (put (unavailable a) s) p (omega arith))
     (λ p.
     let e : a ≡ m = omega arith in
-    look-each-out k (suc a) m (put (lost a) s) (inl (omega arith)) ∙ look-put m (lost a) (s .tracked) ∙ rw (eq-eqb a m e))
+    look-each-out k (suc a) m (put (unavailable a) s) (inl (omega arith)) ∙ look-put m (unavailable a) (s .tracked) ∙ rw (eq-eqb a m e))
     (split-lt a m)

@@ -14,7 +14,7 @@ isGreatest (negsuc n) = false
 abbrev pub nextCount : ℤ → ℤ
 nextCount n = cond (isGreatest n) (negsuc 2147483647) (sucℤ n)
 
--- the counter at first
+-- the counter at first: "0 at first"
 abbrev pub fresh : AckNackCounter
 fresh = record { count = pos 0 }
 

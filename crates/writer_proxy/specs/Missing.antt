@@ -19,7 +19,7 @@ unfoldable pub missing : ℕ → ℕ → List Entry → List ℕ
 missing lo zero l = []
 missing lo (suc k) l = cond (has lo l) (missing (suc lo) k l) (lo ∷ missing (suc lo) k l)
 
--- where the list begins: "Taking heartbeat start as the list's start when the base is higher" is the error
+-- where the list begins: at heartbeat start, or at the base where that is higher
 abbrev pub lowest : ℤ → State → ℕ
 lowest start s = max (s .base) (natOf start)
 

@@ -17,11 +17,12 @@ unfoldable pub look : ℕ → List Entry → Option Mark
 look n [] = none
 look n (x ∷ l) = cond (eqb (x .number) n) (some (x .mark)) (look n l)
 
--- whether a number is tracked
+-- whether there is a mark
 abbrev pub given : Option Mark → Bool
 given none = false
 given (some m) = true
 
+-- whether a number is tracked
 abbrev pub has : ℕ → List Entry → Bool
 has n l = given (look n l)
 

@@ -6,7 +6,7 @@ use lib.ListN.{length}
 use lib.Dec.{ltb}
 use Rattle.sequence_number.specs.Lent.{over}
 use Rattle.sequence_number.specs.Outcome.{Outcome, refused, done}
-use Rattle.proxy_record.specs.State.{begun}
+use Rattle.proxy_record.specs.State.{freshState}
 use Rattle.proxy_record.specs.Record.{recordOf, size}
 use Rattle.proxy_core.specs.Calls.{Forcing, unforced}
 
@@ -17,4 +17,4 @@ pub record Begun : Type 0 where
 
 -- row 3: "lent output shorter than the answer" leaves the words; else the record of a proxy that has heard nothing, and past it what was there
 unfoldable pub setUp : List ℕ → Begun
-setUp w = cond (ltb (length w) size) (record { report = refused 3; words = w }) (record { report = done unforced; words = over (recordOf begun) w })
+setUp w = cond (ltb (length w) size) (record { report = refused 3; words = w }) (record { report = done unforced; words = over (recordOf freshState) w })

@@ -2,11 +2,7 @@
 use Prim.Native.Nat.{ℕ, suc, _≤_}
 use mathlib.Core.Logic.{_⊎_}
 use mathlib.Core.Path.{_≡_}
-use mathlib.Core.Bool.{true}
 use mathlib.Core.List.{List, [], _∷_}
-use lib.IntN.{ℤ, pos}
-use lib.Signed.{ltZ}
-use Rattle.sequence_number.specs.Number.{top}
 use Rattle.proxy_record.specs.Entries.{Entry}
 
 -- an entry of the table has the number
@@ -18,7 +14,3 @@ Tracked n (x ∷ l) = (x .number ≡ n) ⊎ Tracked n l
 abbrev pub Ascending : ℕ → List ℕ → Type 0
 Ascending lo [] = Unit {0}
 Ascending lo (n ∷ l) = (lo ≤ n) × Ascending (suc n) l
-
--- row 4: "number below 1 or equal to 2^63 - 1"
-abbrev pub NotTaken : ℤ → Type 0
-NotTaken n = (ltZ n (pos 1) ≡ true) ⊎ (n ≡ pos top)

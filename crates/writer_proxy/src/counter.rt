@@ -1,6 +1,6 @@
 // The acknack count: handed out, and moved on where the caller keeps it.
 ghost use mathlib.Core.Path.{_≡_};
-ghost use Rattle.writer_proxy.specs.Counter.{nextCount, handedOut};
+ghost use Rattle.writer_proxy.specs.Counter.{nextCount, fresh, handedOut};
 
 pub struct AckNackCounter {
     pub count: i32,
@@ -23,6 +23,13 @@ fn next_count(n: i32) -> i32
 }
 
 impl AckNackCounter {
+    // The counter at first.
+    pub fn new() -> AckNackCounter
+        ensures { λ r. ⌜ r ≡ fresh ⌝ }
+    {
+        AckNackCounter { count: 0 }
+    }
+
     pub fn next_ack_nack_sequence_number(self) -> HandedOut
         ensures { λ r. ⌜ r ≡ handedOut self ⌝ }
     {

@@ -64,7 +64,7 @@ fn list_missing(t: &[u64], lo: u64, hi: u64, out: &mut [i64])
     }
 }
 
-// The missing numbers of a heartbeat's range, its end among it, to the lent list. Refused with 4: the end is 2^63 - 1; then with 3: the list is too short.
+// The missing numbers of a heartbeat's range, its end included, to the lent list. Refused with 4: the end is 2^63 - 1; then with 3: the list is too short.
 pub fn missing_seqnums(t: &[u64], start: i64, end: i64, out: &mut [i64]) -> Listing
     requires { ⌜ Good (now t) ⌝ }
     ensures { λ r. ⌜ (listing r ≡ listed start end (stateOf (now (t .entry))) (now (out .entry)) .answer) × (now (out .exit) ≡ listed start end (stateOf (now (t .entry))) (now (out .entry)) .output) ⌝ }

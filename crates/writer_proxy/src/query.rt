@@ -14,7 +14,7 @@ use proxy_record::WORDS;
 use proxy_record::column;
 use sequence_number::number::natural;
 
-// What is known of a number: nothing, that it is not available, or that it was received at a time.
+// What the table says of a number: nothing, that it is not available, or that it was received at a time.
 pub enum Status {
     Untracked,
     NotAvailable,
@@ -35,7 +35,7 @@ pub fn all_ackable_before(t: &[u64]) -> u64
     t[BASE]
 }
 
-// The Rust's `last_change_timestamp`, with the number.
+// The greatest number received, and its time: the Rust's `last_change_timestamp`, with the number.
 pub fn last_change(t: &[u64]) -> Last
     requires { ⌜ Good (now t) ⌝ }
     ensures { λ r. ⌜ lastShown r ≡ lastOf (stateOf (now (t .entry))) ⌝ }
@@ -68,7 +68,7 @@ fn status_of(t: &[u64], n: u64) -> Status
     Status::Untracked
 }
 
-// Not in the Rust. A number below the base is not tracked any more.
+// The mark of a tracked number; of a number below the base, tracked no more, nothing. Not in the Rust.
 pub fn change_status(t: &[u64], number: i64) -> Status
     requires { ⌜ Good (now t) ⌝ }
     ensures { λ r. ⌜ shown r ≡ statusOf number (stateOf (now (t .entry))) ⌝ }

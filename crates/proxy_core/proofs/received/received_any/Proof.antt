@@ -2,7 +2,7 @@
 use native.Mathlib.Omega.{arith}
 use mathlib.Core.Path.{refl}
 use borrow.Author.Needs.{needs}
-use Rattle.proxy_core.specs.Calls.{cap}
+use Rattle.proxy_record.specs.State.{cap}
 use Rattle.proxy_core.proofs.StepLaws.{base-word, noted-good, received-old, received-above}
 use Rattle.proxy_core.proofs.received.received_any.Statement.{statement}
 use Rattle.proxy_core.proofs.received.received_any.Tie as tie

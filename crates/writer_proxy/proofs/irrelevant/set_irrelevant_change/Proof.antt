@@ -3,9 +3,10 @@ use Prim.Native.Nat.{_<_, _≤_}
 use native.Mathlib.Omega.{arith}
 use mathlib.Core.Path.{refl, sym}
 use borrow.Author.Needs.{needs}
+use Rattle.proxy_record.specs.State.{cap}
 use Rattle.proxy_record.specs.Record.{stateOf}
 use Rattle.proxy_core.specs.declared.Report.the-variants.{Done}
-use Rattle.proxy_core.specs.Calls.{cap, refuses, irrelevantAt, irrelevant}
+use Rattle.proxy_core.specs.Calls.{refuses, irrelevantAt, irrelevant}
 use Rattle.proxy_core.proofs.CallsLaws.{irrelevant-old, irrelevant-new}
 use Rattle.proxy_core.proofs.StepLaws.{answered, base-word, taken-below, taken-is, taken-not, irrelevant-keeps}
 use Rattle.writer_proxy.proofs.irrelevant.set_irrelevant_change.Statement.{statement}

@@ -1,7 +1,7 @@
 -- `writer_proxy::query::all_ackable_before` meets its contract: the first word is the base. Assumes nothing.
 use native.Mathlib.Omega.{arith}
 use borrow.Author.Needs.{needs}
-use Rattle.proxy_core.specs.Calls.{cap}
+use Rattle.proxy_record.specs.State.{cap}
 use Rattle.proxy_core.proofs.StepLaws.{base-word}
 use Rattle.writer_proxy.proofs.query.all_ackable_before.Statement.{statement}
 use Rattle.writer_proxy.proofs.query.all_ackable_before.Tie as tie

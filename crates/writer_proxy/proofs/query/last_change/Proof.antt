@@ -1,10 +1,10 @@
 -- `writer_proxy::query::last_change` meets its contract: the two words of the head, by the cases of `lastOf`. Assumes nothing.
 use native.Mathlib.Omega.{arith}
 use borrow.Author.Needs.{needs}
+use Rattle.proxy_record.specs.State.{cap}
 use Rattle.proxy_record.specs.Record.{stateOf}
 use Rattle.proxy_record.proofs.PartLaws.{last-at, time-at}
 use Rattle.proxy_record.proofs.RecordLaws.{good-kept}
-use Rattle.proxy_core.specs.Calls.{cap}
 use Rattle.writer_proxy.proofs.QueryLaws.{last-none, last-some}
 use Rattle.writer_proxy.proofs.query.last_change.Statement.{statement}
 use Rattle.writer_proxy.proofs.query.last_change.Tie as tie

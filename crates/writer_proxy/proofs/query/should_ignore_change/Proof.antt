@@ -3,8 +3,8 @@ use native.Mathlib.Omega.{arith}
 use mathlib.Core.Path.{_≡_, ap}
 use mathlib.Core.Bool.{Bool, true, false}
 use borrow.Author.Needs.{needs}
+use Rattle.proxy_record.specs.State.{cap}
 use Rattle.proxy_record.specs.Record.{stateOf}
-use Rattle.proxy_core.specs.Calls.{cap}
 use Rattle.proxy_core.proofs.NatLaws.{nat-passed}
 use Rattle.proxy_core.proofs.StepLaws.{base-word}
 use Rattle.writer_proxy.specs.Queries.{given, ignored, shown}
