@@ -47,7 +47,7 @@ bit-position ws (suc n) i h e =
     Memᴰ·append-right (positions ws n) (rw g (List·Memᴰ·head f)))
     (split-lt i n)
 
--- "n is base + i for a set bit i below the count": what is listed, and nothing else
+-- n is base + i for a set bit i below the count: that is listed, and nothing else
 module _ (k : Kind) (s : NumberSet (k .Number)) (n : k .Number) where
   pub member-bit : List·Memᴰ n (members k s) → (i : ℕ) × (i < s .count) × (hasBit (s .words) i ≡ true) × (n ≡ k .plus (s .base) i)
   member-bit m =
@@ -89,7 +89,7 @@ positions-rise ws (suc n) i j h l =
         rw (List·getD-append (positions ws n) (n ∷ []) 0 i (omega arith), f) (position-below ws n i (omega arith))
     last before false (inr p) q = absurd (omega arith)
 
--- "rising .. strictly": each member is below every later one
+-- "Members are listed rising or falling": rising, each member is below every later one
 pub members-rise : (k : Kind) → Lawful k → (s : NumberSet (k .Number)) (i j : ℕ) → i < j → j < length (members k s)
     → k .below (getD (members k s) i (k .nought)) (getD (members k s) j (k .nought)) ≡ true
 members-rise k law s i j h l =
@@ -116,7 +116,7 @@ getD-reverse (x ∷ l) i d h =
     (ap (λ (n : ℕ). getD (reverse l ++ (x ∷ [])) n d) f ∙ getD-append-add (reverse l) (x ∷ []) 0 d ∙ ap (λ (n : ℕ). getD (x ∷ l) n d) (sym e)))
     (split-lt i (length l))
 
--- "(falling) strictly": each member is above every later one
+-- "Members are listed rising or falling": falling, each member is above every later one
 pub members-fall : (k : Kind) → Lawful k → (s : NumberSet (k .Number)) (i j : ℕ) → i < j → j < length (reverse (members k s))
     → k .below (getD (reverse (members k s)) j (k .nought)) (getD (reverse (members k s)) i (k .nought)) ≡ true
 members-fall k law s i j h l =

@@ -46,7 +46,7 @@ module _ (o : ByteOrder) (ws : List ℕ) (all : Words ws) where
       word-append front (wordsBytes o ws m ++ rest) o (length front + 4 * n) (4 * n) refl ∙ word-in m n rest h (omega arith) in
       (λ i. words-back front rest m n h (omega arith) i ++ (w i ∷ [])) ∙ sym (take-suc ws n 0 (omega arith))
 
--- "Reading the written bytes gives the set back (count, base, the words of the count), and takes exactly the measured length"
+-- reading the written bytes gives the set back (base, count, the words of the count), and takes exactly the measured length
 module _ (k : Kind) (law : Lawful k) (o : ByteOrder) (s : NumberSet (k .Number)) (v : law .Valid (s .base)) (all : Words (s .words))
     (small : s .count ≤ 256) (out : List ℕ) where
   abbrev pub back : NumberSet (k .Number)

@@ -1,4 +1,4 @@
--- A number set: base, bit count, words. Assumes nothing.
+-- A number set: base, bit count, words (RTPS 2.5, 8.3.5.5 and 9.4.2.6; of fragments 8.3.5.7 and 9.4.2.8). Assumes nothing.
 use Prim.Native.Nat.{ℕ, _+_, _*_, _/_}
 use mathlib.Core.List.{List, map}
 use lib.ListN.{replicate}
@@ -20,7 +20,7 @@ sequenceSet s = record { base = s .base; count = s .count; words = s .words }
 abbrev pub fragmentSet : FragmentNumberSet → NumberSet ℕ
 fragmentSet s = record { base = s .base; count = s .count; words = s .words }
 
--- "Words held by value number eight"
+-- "Words held by value number eight": all zero
 abbrev pub noWords : List ℕ
 noWords = replicate 8 0
 

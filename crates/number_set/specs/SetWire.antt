@@ -1,4 +1,4 @@
--- Reading, writing and measuring a set: what each call promises. Assumes nothing.
+-- Reading, writing and measuring a set (RTPS 2.5, 9.4.2.6; of fragments 9.4.2.8): what each call promises. Assumes nothing.
 use Prim.Native.Nat.{ℕ, zero, suc, _+_, _*_, _-_}
 use mathlib.Core.Path.{_≡_}
 use mathlib.Core.Bool.{cond}
