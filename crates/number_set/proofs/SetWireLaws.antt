@@ -16,7 +16,8 @@ use Rattle.sequence_number.specs.Word.{wordAt, wordBytes}
 use Rattle.sequence_number.specs.Kind.{Kind}
 use Rattle.sequence_number.specs.NumberWire.{wrote}
 use Rattle.number_set.specs.NumberSet.{NumberSet, noWords, wordCount, bytesOf}
-use Rattle.number_set.specs.SetWire.{bitCount, readCount, wordsFrom, readWords, Taken, takenSet, readSet, wordsBytes, bitsBytes, setBytes, writeSet, WritesSet}
+use Rattle.number_set.specs.Inner.{bitCount}
+use Rattle.number_set.specs.SetWire.{readCount, wordsFrom, readWords, Taken, takenSet, readSet, wordsBytes, bitsBytes, setBytes, writeSet, WritesSet}
 use Rattle.sequence_number.specs.declared.ByteOrder.{ByteOrder}
 use Rattle.number_set.specs.declared.set.BitCount.{BitCount}
 use Rattle.number_set.specs.declared.set.BitCount.the-variants as bit-count

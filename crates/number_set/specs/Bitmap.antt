@@ -26,7 +26,3 @@ onlyIf false i = []
 abbrev pub positions : List ℕ → ℕ → List ℕ
 positions ws zero = []
 positions ws (suc n) = positions ws n ++ onlyIf (hasBit ws n) n
-
--- the set bits of one word, rising: for the functions below the public calls, no public promise cites it
-unfoldable pub wordPositions : ℕ → List ℕ
-wordPositions w = positions (w ∷ []) 32

@@ -15,19 +15,13 @@ use Rattle.sequence_number.specs.declared.ByteOrder.{ByteOrder}
 use Rattle.sequence_number.specs.declared.wire.Written.{Written}
 use Rattle.number_set.specs.declared.set.SequenceNumberSetRead.{SequenceNumberSetRead}
 use Rattle.number_set.specs.declared.set.FragmentNumberSetRead.{FragmentNumberSetRead}
-use Rattle.number_set.specs.declared.set.BitCount.{BitCount}
 use Rattle.number_set.specs.declared.set.Measured.{Measured}
-use Rattle.number_set.specs.declared.set.BitCount.the-variants as bit-count
-use Rattle.number_set.specs.declared.set.Measured.the-variants as measured-as
+use Rattle.number_set.specs.declared.set.Measured.the-variants.{Refused, Bytes}
 
--- the paper's number and values for each answer
-abbrev pub bitCount : BitCount → Outcome ℕ
-bitCount (bit-count.Refused n) = refused n
-bitCount (bit-count.Bits n) = done n
-
+-- the paper's number and value for the answer of measuring
 abbrev pub measured : Measured → Outcome ℕ
-measured (measured-as.Refused n) = refused n
-measured (measured-as.Bytes n) = done n
+measured (Refused n) = refused n
+measured (Bytes n) = done n
 
 -- the count of the set whose base takes so many bytes: "1 for base or count, 2, 1 for words"
 abbrev pub readCount : ℕ → ByteOrder → List ℕ → Outcome ℕ
