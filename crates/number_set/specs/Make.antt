@@ -8,7 +8,7 @@ use lib.IntN.{ℤ, pos}
 use Rattle.sequence_number.specs.Outcome.{Outcome, refused, done}
 use Rattle.sequence_number.specs.Kind.{Kind}
 use Rattle.number_set.specs.Bitmap.{setBit}
-use Rattle.number_set.specs.NumberSet.{NumberSet, noWords, emptyAt}
+use Rattle.number_set.specs.NumberSet.{NumberSet, sequenceStruct, fragmentStruct, noWords, emptyAt}
 use Rattle.number_set.specs.declared.set.SequenceNumberSetMade.{SequenceNumberSetMade}
 use Rattle.number_set.specs.declared.set.FragmentNumberSetMade.{FragmentNumberSetMade}
 
@@ -58,9 +58,9 @@ makeSet k base xs = cond (rising k xs) (done (setOver k base xs)) (refused 15)
 
 -- the answers of making: a refusal has the empty set at 0
 abbrev pub sequenceSetMade : Outcome (NumberSet ℤ) → SequenceNumberSetMade
-sequenceSetMade (refused n) = record { refusal = n; set = record { base = pos 0; count = 0; words = noWords } }
-sequenceSetMade (done s) = record { refusal = 0; set = record { base = s .base; count = s .count; words = s .words } }
+sequenceSetMade (refused n) = record { refusal = n; set = sequenceStruct (emptyAt (pos 0)) }
+sequenceSetMade (done s) = record { refusal = 0; set = sequenceStruct s }
 
 abbrev pub fragmentSetMade : Outcome (NumberSet ℕ) → FragmentNumberSetMade
-fragmentSetMade (refused n) = record { refusal = n; set = record { base = 0; count = 0; words = noWords } }
-fragmentSetMade (done s) = record { refusal = 0; set = record { base = s .base; count = s .count; words = s .words } }
+fragmentSetMade (refused n) = record { refusal = n; set = fragmentStruct (emptyAt 0) }
+fragmentSetMade (done s) = record { refusal = 0; set = fragmentStruct s }

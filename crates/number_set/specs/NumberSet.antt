@@ -20,6 +20,13 @@ sequenceSet s = record { base = s .base; count = s .count; words = s .words }
 abbrev pub fragmentSet : FragmentNumberSet → NumberSet ℕ
 fragmentSet s = record { base = s .base; count = s .count; words = s .words }
 
+-- and a set as the code's struct
+abbrev pub sequenceStruct : NumberSet ℤ → SequenceNumberSet
+sequenceStruct s = record { base = s .base; count = s .count; words = s .words }
+
+abbrev pub fragmentStruct : NumberSet ℕ → FragmentNumberSet
+fragmentStruct s = record { base = s .base; count = s .count; words = s .words }
+
 -- "Words held by value number eight": all zero
 abbrev pub noWords : List ℕ
 noWords = replicate 8 0

@@ -10,7 +10,7 @@ use Rattle.sequence_number.specs.Outcome.{Outcome, refused, done, found, left}
 use Rattle.sequence_number.specs.Word.{wordAt, wordBytes}
 use Rattle.sequence_number.specs.Kind.{Kind}
 use Rattle.sequence_number.specs.NumberWire.{wrote}
-use Rattle.number_set.specs.NumberSet.{NumberSet, noWords, wordCount, bytesOf}
+use Rattle.number_set.specs.NumberSet.{NumberSet, sequenceStruct, fragmentStruct, emptyAt, wordCount, bytesOf}
 use Rattle.sequence_number.specs.declared.ByteOrder.{ByteOrder}
 use Rattle.sequence_number.specs.declared.wire.Written.{Written}
 use Rattle.number_set.specs.declared.set.SequenceNumberSetRead.{SequenceNumberSetRead}
@@ -58,14 +58,12 @@ readSet k o s = found (takenSet k o s) (readCount (k .size) o s)
 
 -- the answers of reading: a refusal has the empty set at 0, and takes nothing
 abbrev pub sequenceSetRead : Outcome (Taken ℤ) → SequenceNumberSetRead
-sequenceSetRead (refused n) = record { refusal = n; taken = 0; set = record { base = pos 0; count = 0; words = noWords } }
-sequenceSetRead (done t) =
-    record { refusal = 0; taken = t .taken; set = record { base = t .set .base; count = t .set .count; words = t .set .words } }
+sequenceSetRead (refused n) = record { refusal = n; taken = 0; set = sequenceStruct (emptyAt (pos 0)) }
+sequenceSetRead (done t) = record { refusal = 0; taken = t .taken; set = sequenceStruct (t .set) }
 
 abbrev pub fragmentSetRead : Outcome (Taken ℕ) → FragmentNumberSetRead
-fragmentSetRead (refused n) = record { refusal = n; taken = 0; set = record { base = 0; count = 0; words = noWords } }
-fragmentSetRead (done t) =
-    record { refusal = 0; taken = t .taken; set = record { base = t .set .base; count = t .set .count; words = t .set .words } }
+fragmentSetRead (refused n) = record { refusal = n; taken = 0; set = fragmentStruct (emptyAt 0) }
+fragmentSetRead (done t) = record { refusal = 0; taken = t .taken; set = fragmentStruct (t .set) }
 
 -- the bytes of the first n words
 abbrev pub wordsBytes : ByteOrder → List ℕ → ℕ → List ℕ
