@@ -13,7 +13,7 @@ use lib.Dec.{ltb, eqb, T}
 use borrow.Author.Tests.{lt-ltb, le-ltb, eq-eqb, eqb-true}
 use Rattle.sequence_number.specs.Kind.{Kind}
 use Rattle.number_set.specs.Bitmap.{hasBit, setBit, onlyIf, positions}
-use Rattle.number_set.specs.NumberSet.{NumberSet, members, noWords}
+use Rattle.number_set.specs.NumberSet.{NumberSet, members, zeroWords}
 use Rattle.number_set.specs.Make.{rising, smaller, markedTo, setFrom}
 use Rattle.sequence_number.proofs.Split.{split-lt}
 use Rattle.sequence_number.proofs.KindLaws.{Lawful}
@@ -135,7 +135,7 @@ length-marked place d xs count (suc n) = go (ltb (place (getD xs n d)) count) (l
     go true e = simp length-set e
     go false e = e
 
-none-marked : (i : ℕ) → hasBit noWords i ≡ false
+none-marked : (i : ℕ) → hasBit zeroWords i ≡ false
 none-marked i = ap (λ (w : ℕ). eqb (w / 2 ^ (31 - i % 32) % 2) 1) (zero-at 8 (i / 32)) ∙ ap (λ (w : ℕ). eqb (w % 2) 1) (zero-div (2 ^ (31 - i % 32)))
   where
     zero-at : (m j : ℕ) → _≡_ {A = ℕ} (getD (replicate m 0) j 0) 0

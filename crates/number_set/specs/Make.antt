@@ -8,7 +8,7 @@ use lib.IntN.{ℤ, pos}
 use Rattle.sequence_number.specs.Outcome.{Outcome, refused, done}
 use Rattle.sequence_number.specs.Kind.{Kind}
 use Rattle.number_set.specs.Bitmap.{setBit}
-use Rattle.number_set.specs.NumberSet.{NumberSet, sequenceStruct, fragmentStruct, noWords, emptyAt}
+use Rattle.number_set.specs.NumberSet.{NumberSet, sequenceStruct, fragmentStruct, zeroWords, emptyAt}
 use Rattle.number_set.specs.declared.set.SequenceNumberSetMade.{SequenceNumberSetMade}
 use Rattle.number_set.specs.declared.set.FragmentNumberSetMade.{FragmentNumberSetMade}
 
@@ -30,7 +30,7 @@ spanned away = cond (leb 256 away) 256 (away + 1)
 
 -- "list members through last are set": those of the first n elements whose place is below the count
 abbrev pub markedTo : {A : Type 0} → (A → ℕ) → A → List A → ℕ → ℕ → List ℕ
-markedTo place d xs count zero = noWords
+markedTo place d xs count zero = zeroWords
 markedTo place d xs count (suc n) =
     cond (ltb (place (getD xs n d)) count) (setBit (markedTo place d xs count n) (place (getD xs n d))) (markedTo place d xs count n)
 

@@ -10,7 +10,7 @@ use Rattle.sequence_number.specs.Outcome.{Outcome, refused, done, found, left}
 use Rattle.sequence_number.specs.Word.{wordAt, wordBytes}
 use Rattle.sequence_number.specs.Kind.{Kind}
 use Rattle.sequence_number.specs.NumberWire.{wrote}
-use Rattle.number_set.specs.NumberSet.{NumberSet, sequenceStruct, fragmentStruct, emptyAt, wordCount, bytesOf}
+use Rattle.number_set.specs.NumberSet.{NumberSet, sequenceStruct, fragmentStruct, emptyAt, wordCount, setLength}
 use Rattle.sequence_number.specs.declared.ByteOrder.{ByteOrder}
 use Rattle.sequence_number.specs.declared.wire.Written.{Written}
 use Rattle.number_set.specs.declared.set.SequenceNumberSetRead.{SequenceNumberSetRead}
@@ -28,7 +28,7 @@ abbrev pub readCount : ℕ → ByteOrder → List ℕ → Outcome ℕ
 readCount size o s =
     cond (ltb (length s) (size + 4)) (refused 1)
     (cond (ltb 256 (wordAt o s size)) (refused 2)
-    (cond (ltb (length s) (bytesOf size (wordAt o s size))) (refused 1)
+    (cond (ltb (length s) (setLength size (wordAt o s size))) (refused 1)
     (done (wordAt o s size))))
 
 -- n words from a place on
@@ -49,7 +49,7 @@ abbrev pub takenSet : (k : Kind) → ByteOrder → List ℕ → ℕ → Taken (k
 takenSet k o s count =
     record {
       set = record { base = k .numberAt o s 0; count = count; words = readWords o s (k .size + 4) (wordCount count) };
-      taken = bytesOf (k .size) count;
+      taken = setLength (k .size) count;
     }
 
 -- the set at the front of the bytes; bytes after it are not looked at
@@ -82,8 +82,8 @@ setBytes k o s = k .numberBytes o (s .base) ++ bitsBytes o (s .count) (s .words)
 abbrev pub writeSet : ℕ → ℕ → ℕ → Outcome ℕ
 writeSet size count room =
     cond (ltb 256 count) (refused 2)
-    (cond (ltb room (bytesOf size count)) (refused 3)
-    (done (bytesOf size count)))
+    (cond (ltb room (setLength size count)) (refused 3)
+    (done (setLength size count)))
 
 -- what writing a set to the lent bytes promises: the answer, and each byte
 pub record WritesSet (k : Kind) (o : ByteOrder) (s : NumberSet (k .Number)) (before : List ℕ) (r : Written) (after : List ℕ) : Type 0 where
@@ -92,4 +92,4 @@ pub record WritesSet (k : Kind) (o : ByteOrder) (s : NumberSet (k .Number)) (bef
 
 -- "measured: 2", with a base of so many bytes
 abbrev pub measureSet : ℕ → ℕ → Outcome ℕ
-measureSet size count = cond (ltb 256 count) (refused 2) (done (bytesOf size count))
+measureSet size count = cond (ltb 256 count) (refused 2) (done (setLength size count))

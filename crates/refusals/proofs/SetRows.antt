@@ -15,7 +15,7 @@ use Rattle.sequence_number.specs.Kind.{Kind, sequence, fragment}
 use Rattle.number_set.specs.Bitmap.{positions}
 use Rattle.sequence_number.specs.Word.{wordAt}
 use Rattle.sequence_number.specs.NumberWire.{readNumber, writeNumber}
-use Rattle.number_set.specs.NumberSet.{NumberSet, members, bytesOf}
+use Rattle.number_set.specs.NumberSet.{NumberSet, members, setLength}
 use Rattle.number_set.specs.SetWire.{Taken, readSet, takenSet, setBytes, writeSet, measureSet}
 use Rattle.number_set.specs.Make.{risingTo, rising, makeSet}
 use Rattle.number_set.specs.Walk.{walkSet, anyPast, inOrder}
@@ -40,7 +40,7 @@ module _ (k : Kind) where
       let reads : Outcome ℕ → Verdict = λ x. verdict (found (takenSet k o s) x) in
       let count : ℕ = wordAt o s (k .size) in
       asks-less reads refl (length s) (k .size + 4)
-      (λ a. asks-less reads refl 256 count (λ b. asks-less reads refl (length s) (bytesOf (k .size) count) (λ c. none-left)))
+      (λ a. asks-less reads refl 256 count (λ b. asks-less reads refl (length s) (setLength (k .size) count) (λ c. none-left)))
 
 module _ (k : Kind) (law : Lawful k) (o : ByteOrder) where
   pub write-number-exactly : (n : k .Number) (out : List ℕ) → Exactly (verdict (writeNumber k (length out))) (writeNumberRows k o n out)
@@ -49,7 +49,7 @@ module _ (k : Kind) (law : Lawful k) (o : ByteOrder) where
   pub write-set-exactly : (s : NumberSet (k .Number)) (out : List ℕ) → Exactly (verdict (writeSet (k .size) (s .count) (length out))) (writeSetRows k o s out)
   write-set-exactly s out =
       rw (length-set-bytes k law o s)
-      (asks-less verdict refl 256 (s .count) (λ a. asks-less verdict refl (length out) (bytesOf (k .size) (s .count)) (λ b. none-left)))
+      (asks-less verdict refl 256 (s .count) (λ a. asks-less verdict refl (length out) (setLength (k .size) (s .count)) (λ b. none-left)))
 
 -- ---- rising lists
 
