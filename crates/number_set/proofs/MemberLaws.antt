@@ -14,11 +14,12 @@ use borrow.Author.Tests.{lt-ltb, le-ltb, eq-eqb, eqb-true}
 use Rattle.sequence_number.specs.Kind.{Kind}
 use Rattle.number_set.specs.Bitmap.{hasBit, setBit, onlyIf, positions}
 use Rattle.number_set.specs.NumberSet.{NumberSet, members, zeroWords}
-use Rattle.number_set.specs.Make.{rising, smaller, markedTo, setFrom}
+use Rattle.number_set.specs.Inner.{markedTo}
+use Rattle.number_set.specs.Make.{rising, smaller, setFrom}
 use Rattle.sequence_number.proofs.Split.{split-lt}
 use Rattle.sequence_number.proofs.KindLaws.{Lawful}
 use Rattle.number_set.proofs.BitLaws.{set-has}
-use Rattle.number_set.proofs.MakeLaws.{spanned-small, none-below}
+use Rattle.number_set.proofs.MakeLaws.{spanned-small, none-below, marked-indexed}
 
 -- ---- which positions are listed
 
@@ -205,10 +206,13 @@ module _ (k : Kind) (law : Lawful k) (base x : k .Number) (xs : List (k .Number)
   one-least : 1 ≤ law .rank (smaller k base x)
   one-least = omega (arith, law .rank-least, law .rank-above (k .least) (smaller k base x) above)
 
+  words-indexed : markedTo (k .apart low) (k .nought) (x ∷ xs) (made .count) (length (x ∷ xs)) ≡ made .words
+  words-indexed = marked-indexed (k .apart low) (k .nought) (x ∷ xs) (made .count)
+
   pub made-member : List·Memᴰ n (members k made) → List·Memᴰ n (x ∷ xs) × (k .apart low n < made .count)
   made-member m =
       let b = member-bit k made n m in
-      let j = marked-bit (k .apart low) (k .nought) (x ∷ xs) (made .count) (spanned-small (k .apart low last)) (length (x ∷ xs)) (b .0) (b .2) in
+      let j = marked-bit (k .apart low) (k .nought) (x ∷ xs) (made .count) (spanned-small (k .apart low last)) (length (x ∷ xs)) (b .0) (ap (λ (ws : List ℕ). hasBit ws (b .0)) words-indexed ∙ b .2) in
       let y : k .Number = getD (x ∷ xs) (j .0) (k .nought) in
       let e : n ≡ y =
       b .3 ∙ ap (k .plus low) (sym (j .2)) ∙ law .plus-apart low y one-least (none-below k law base (x ∷ xs) r low refl (j .0) (j .1)) in
@@ -219,7 +223,7 @@ module _ (k : Kind) (law : Lawful k) (base x : k .Number) (xs : List (k .Number)
       let j = mem-index (k .nought) n (x ∷ xs) m in
       let f : k .apart low (getD (x ∷ xs) (j .0) (k .nought)) ≡ k .apart low n = ap (k .apart low) (j .2) in
       let b : hasBit (made .words) (k .apart low n) ≡ true =
-      ap (hasBit (made .words)) (sym f)
+      (λ i. hasBit (sym words-indexed i) (sym f i))
       ∙ bit-marked (k .apart low) (k .nought) (x ∷ xs) (made .count) (spanned-small (k .apart low last)) (length (x ∷ xs)) (j .0) (j .1)
       (subst (λ (i : ℕ). i < made .count) (sym f) h) in
       let g : law .rank low ≤ law .rank n = subst (λ (y : k .Number). law .rank low ≤ law .rank y) (j .2) (none-below k law base (x ∷ xs) r low refl (j .0) (j .1)) in

@@ -1,8 +1,12 @@
 -- For the functions below the public calls: no public promise cites it. Assumes nothing.
-use Prim.Native.Nat.{ℕ}
+use Prim.Native.Nat.{ℕ, zero, suc}
+use mathlib.Core.Bool.{cond}
 use mathlib.Core.List.{List, [], _∷_}
+use lib.ListN.{getD}
+use lib.Dec.{ltb}
 use Rattle.sequence_number.specs.Outcome.{Outcome, refused, done}
-use Rattle.number_set.specs.Bitmap.{positions}
+use Rattle.number_set.specs.Bitmap.{setBit, positions}
+use Rattle.number_set.specs.NumberSet.{zeroWords}
 use Rattle.number_set.specs.declared.set.BitCount.{BitCount}
 use Rattle.number_set.specs.declared.set.BitCount.the-variants.{Refused, Bits}
 
@@ -14,3 +18,9 @@ wordPositions w = positions (w ∷ []) 32
 abbrev pub bitCount : BitCount → Outcome ℕ
 bitCount (Refused n) = refused n
 bitCount (Bits n) = done n
+
+-- the bits of the first n elements, as the loop that marks them goes: `setBits` by index
+abbrev pub markedTo : {A : Type 0} → (A → ℕ) → A → List A → ℕ → ℕ → List ℕ
+markedTo place d xs count zero = zeroWords
+markedTo place d xs count (suc n) =
+    cond (ltb (place (getD xs n d)) count) (setBit (markedTo place d xs count n) (place (getD xs n d))) (markedTo place d xs count n)

@@ -1,7 +1,7 @@
 -- Walking a set: "Members are listed rising or falling". Assumes nothing.
 use Prim.Native.Nat.{ℕ}
 use mathlib.Core.Path.{_≡_}
-use mathlib.Core.Bool.{Bool, true, false, cond, not, _||_}
+use mathlib.Core.Bool.{Bool, false, cond, not, _||_}
 use mathlib.Core.List.{List, [], _∷_, reverse}
 use lib.ListN.{length}
 use lib.Dec.{ltb}
