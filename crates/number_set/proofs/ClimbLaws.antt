@@ -11,7 +11,8 @@ use lib.Seq.{sets, set-set, append-snoc}
 use lib.Dec.{eqb}
 use lib.Pow.{pow-add, shr-shr}
 use borrow.Author.Tests.{eq-eqb, ne-eqb}
-use Rattle.number_set.specs.Bitmap.{hasBit, positions, wordPositions}
+use Rattle.number_set.specs.Bitmap.{hasBit, positions}
+use Rattle.number_set.specs.Inner.{wordPositions}
 use Rattle.number_set.specs.Walk.{anyPast}
 use Rattle.sequence_number.proofs.RunLaws.{sets-append}
 use Rattle.number_set.proofs.PositionLaws.{positions-yes, positions-no, length-more}

@@ -2,26 +2,24 @@
 use Prim.Native.Nat.{ℕ, zero, suc, _+_, _-_, _<_, _≤_}
 use mathlib.Core.Path.{_≡_, refl, ap, _∙_, sym, subst}
 use mathlib.Core.Logic.{⊎-elim}
-use mathlib.Core.Bool.{Bool, true, false, cond, _&&_}
+use mathlib.Core.Bool.{Bool, true, false, cond, _&&_, and-true, and-false, and-assoc}
 use mathlib.Core.List.{List, [], _∷_}
 use native.Mathlib.Omega.{arith}
 use native.Mathlib.Decide.{decLt}
 use native.Mathlib.Numerals.{add-one}
 use native.Mathlib.Nat.{add-zero, add-suc}
-use lib.ListN.{length, getD}
+use lib.ListN.{length, getD, drop}
+use lib.Seq.{drop-cons, drop-length}
 use lib.Dec.{T}
 use borrow.Author.Tests.{lt-ltb, le-ltb, le-leb, lt-leb}
 use Rattle.sequence_number.specs.Outcome.{Outcome, refused, done}
 use Rattle.sequence_number.specs.Kind.{Kind}
 use Rattle.number_set.specs.Bitmap.{setBit}
-use Rattle.number_set.specs.NumberSet.{NumberSet, emptyAt}
-use Rattle.number_set.specs.Make.{risingTo, rising, smaller, spanned, markedTo, setFrom, setOver, makeSet}
+use Rattle.number_set.specs.NumberSet.{NumberSet, zeroWords, emptyAt}
+use Rattle.number_set.specs.Inner.{markedTo}
+use Rattle.number_set.specs.Make.{rising, smaller, spanned, setBits, setFrom, setOver, makeSet}
 use Rattle.sequence_number.proofs.Split.{split, split-lt}
 use Rattle.sequence_number.proofs.KindLaws.{Lawful}
-
-and-false : (b : Bool) → (b && false) ≡ false
-and-false true = refl
-and-false false = refl
 
 and-left : (a b : Bool) → (a && b) ≡ true → a ≡ true
 and-left true b e = refl
@@ -32,6 +30,29 @@ and-right true b e = e
 and-right false b e = absurd (subst T (sym e) tt)
 
 -- ---- rising lists
+
+-- whether each of the first n elements is below the next: `rising` by index, as the loop goes
+abbrev pub risingTo : {A : Type 0} → (A → A → Bool) → A → List A → ℕ → Bool
+risingTo below d xs zero = true
+risingTo below d xs (suc n) = risingTo below d xs n && below (getD xs n d) (getD xs (suc n) d)
+
+rising-front : {A : Type 0} (below : A → A → Bool) (d x : A) (xs : List A) (n : ℕ)
+    → risingTo below d (x ∷ xs) (suc n) ≡ (below x (getD xs 0 d) && risingTo below d xs n)
+rising-front below d x xs zero = sym (and-true (below x (getD xs 0 d)))
+rising-front below d x xs (suc n) =
+    ap (λ (b : Bool). b && below (getD xs n d) (getD xs (suc n) d)) (rising-front below d x xs n)
+    ∙ and-assoc (below x (getD xs 0 d)) (risingTo below d xs n) (below (getD xs n d) (getD xs (suc n) d))
+
+rising-indexed : (k : Kind) (xs : List (k .Number)) → risingTo (k .below) (k .nought) xs (length xs - 1) ≡ rising k xs
+rising-indexed k [] = refl
+rising-indexed k (x ∷ []) = refl
+rising-indexed k (x ∷ y ∷ xs) =
+    let m : length (x ∷ y ∷ xs) - 1 ≡ suc (length xs) = omega arith in
+    let n : length xs ≡ length (y ∷ xs) - 1 = omega arith in
+    ap (risingTo (k .below) (k .nought) (x ∷ y ∷ xs)) m
+    ∙ rising-front (k .below) (k .nought) x (y ∷ xs) (length xs)
+    ∙ ap (λ (i : ℕ). k .below x y && risingTo (k .below) (k .nought) (y ∷ xs) i) n
+    ∙ ap (λ (b : Bool). k .below x y && b) (rising-indexed k (y ∷ xs))
 
 module _ {A : Type 0} (below : A → A → Bool) (d : A) (xs : List A) where
   pub rising-more : (i : ℕ) → risingTo below d xs i ≡ true → below (getD xs i d) (getD xs (i + 1) d) ≡ true → risingTo below d xs (i + 1) ≡ true
@@ -47,7 +68,7 @@ module _ {A : Type 0} (below : A → A → Bool) (d : A) (xs : List A) where
       ∙ ap (λ (b : Bool). b && below (getD xs (i + k) d) (getD xs (suc (i + k)) d)) (stays i k p)
 
   -- where one step does not rise, the list does not
-  pub rising-stops : (i n : ℕ) → i < n → below (getD xs i d) (getD xs (i + 1) d) ≡ false → risingTo below d xs n ≡ false
+  rising-stops : (i n : ℕ) → i < n → below (getD xs i d) (getD xs (i + 1) d) ≡ false → risingTo below d xs n ≡ false
   rising-stops i n h q =
       let e : (i + 1) + (n - (i + 1)) ≡ n = omega arith in
       let s : risingTo below d xs (i + 1) ≡ false =
@@ -85,18 +106,22 @@ module _ (k : Kind) (law : Lawful k) where
   pub none-below : (base : k .Number) (xs : List (k .Number)) → rising k xs ≡ true → (low : k .Number) → low ≡ smaller k base (getD xs 0 (k .nought))
       → (j : ℕ) → j < length xs → law .rank low ≤ law .rank (getD xs j (k .nought))
   none-below base xs r low l j h =
-      let a = first-least xs (length xs - 1) r j (omega arith) in
+      let a = first-least xs (length xs - 1) (rising-indexed k xs ∙ r) j (omega arith) in
       let b = smaller-least base (getD xs 0 (k .nought)) in
       subst (λ (x : k .Number). law .rank x ≤ law .rank (getD xs j (k .nought))) (sym l) (omega arith)
 
-  -- the answers of the test
+-- the answers of the test
+module _ (k : Kind) where
   pub rising-short : (xs : List (k .Number)) → length xs ≡ 0 → true ≡ rising k xs
-  rising-short xs h =
-      let e : length xs - 1 ≡ 0 = omega arith in
-      sym (ap (risingTo (k .below) (k .nought) xs) e)
+  rising-short [] h = refl
+  rising-short (x ∷ xs) h = absurd (omega arith)
+
+  pub rising-fails : (xs : List (k .Number)) (i : ℕ) → i < length xs - 1 → k .below (getD xs i (k .nought)) (getD xs (i + 1) (k .nought)) ≡ false
+      → false ≡ rising k xs
+  rising-fails xs i h q = sym (rising-stops (k .below) (k .nought) xs i (length xs - 1) h q) ∙ rising-indexed k xs
 
   pub rising-ends : (xs : List (k .Number)) (i : ℕ) → i ≡ length xs - 1 → risingTo (k .below) (k .nought) xs i ≡ true → true ≡ rising k xs
-  rising-ends xs i e r = sym (ap (risingTo (k .below) (k .nought) xs) (sym e) ∙ r)
+  rising-ends xs i e r = sym r ∙ ap (risingTo (k .below) (k .nought) xs) e ∙ rising-indexed k xs
 
 -- ---- marking
 
@@ -115,6 +140,17 @@ module _ {A : Type 0} (place : A → ℕ) (d : A) (xs : List A) (count : ℕ) wh
       e
       ∙ sym (ap (λ (b : Bool). cond b (setBit (markedTo place d xs count j) (place (getD xs j d))) (markedTo place d xs count j)) (le-ltb (place (getD xs j d)) count h))
       ∙ ap (markedTo place d xs count) (sym (add-one j))
+
+-- by index as by the list's shape
+module _ {A : Type 0} (place : A → ℕ) (d : A) (xs : List A) (count : ℕ) where
+  marked-rest : (n : ℕ) → n ≤ length xs → setBits place count (markedTo place d xs count n) (drop n xs) ≡ setBits place count zeroWords xs
+  marked-rest zero h = refl
+  marked-rest (suc n) h =
+      ap (setBits place count (markedTo place d xs count n)) (sym (drop-cons xs n d h)) ∙ marked-rest n (omega arith)
+
+  pub marked-indexed : markedTo place d xs count (length xs) ≡ setBits place count zeroWords xs
+  marked-indexed =
+      ap (setBits place count (markedTo place d xs count (length xs))) (sym (drop-length xs)) ∙ marked-rest (length xs) (omega arith)
 
 pub spanned-small : (away : ℕ) → spanned away ≤ 256
 spanned-small away = ⊎-elim (λ h. rw (lt-leb 256 away h) (omega arith)) (λ h. rw (le-leb 256 away h) (omega arith)) (split-lt away 256)
@@ -145,8 +181,8 @@ module _ (k : Kind) {A : Type 0} (answer : Outcome (NumberSet (k .Number)) → A
       let b′ : k .below (smaller k base x) (k .least) ≡ false = sym (ap (λ (y : k .Number). k .below y (k .least)) l) ∙ b in
       let last : suc (length xs) - 1 ≡ length xs = omega arith in
       rw (r, b′)
-      (ap (λ (v : List ℕ). answer (done (record { base = low; count = count; words = v }))) m
-      ∙ ap (λ (n : ℕ). answer (done (record { base = low; count = n; words = markedTo (k .apart low) (k .nought) (x ∷ xs) n (length (x ∷ xs)) }))) c
+      (ap (λ (v : List ℕ). answer (done (record { base = low; count = count; words = v }))) (m ∙ marked-indexed (k .apart low) (k .nought) (x ∷ xs) count)
+      ∙ ap (λ (n : ℕ). answer (done (record { base = low; count = n; words = setBits (k .apart low) n zeroWords (x ∷ xs) }))) c
       ∙ (λ i. answer (done (setFrom k (l i) (getD (x ∷ xs) (last i) (k .nought)) (x ∷ xs)))))
 
 -- a refusal has its number: it is never 0

@@ -13,12 +13,13 @@ use lib.Dec.{ltb, eqb, T}
 use borrow.Author.Tests.{lt-ltb, le-ltb, eq-eqb, eqb-true}
 use Rattle.sequence_number.specs.Kind.{Kind}
 use Rattle.number_set.specs.Bitmap.{hasBit, setBit, onlyIf, positions}
-use Rattle.number_set.specs.NumberSet.{NumberSet, members, noWords}
-use Rattle.number_set.specs.Make.{rising, smaller, markedTo, setFrom}
+use Rattle.number_set.specs.NumberSet.{NumberSet, members, zeroWords}
+use Rattle.number_set.specs.Inner.{markedTo}
+use Rattle.number_set.specs.Make.{rising, smaller, setFrom}
 use Rattle.sequence_number.proofs.Split.{split-lt}
 use Rattle.sequence_number.proofs.KindLaws.{Lawful}
 use Rattle.number_set.proofs.BitLaws.{set-has}
-use Rattle.number_set.proofs.MakeLaws.{spanned-small, none-below}
+use Rattle.number_set.proofs.MakeLaws.{spanned-small, none-below, marked-indexed}
 
 -- ---- which positions are listed
 
@@ -47,7 +48,7 @@ bit-position ws (suc n) i h e =
     Memᴰ·append-right (positions ws n) (rw g (List·Memᴰ·head f)))
     (split-lt i n)
 
--- "n is base + i for a set bit i below the count": what is listed, and nothing else
+-- n is base + i for a set bit i below the count: that is listed, and nothing else
 module _ (k : Kind) (s : NumberSet (k .Number)) (n : k .Number) where
   pub member-bit : List·Memᴰ n (members k s) → (i : ℕ) × (i < s .count) × (hasBit (s .words) i ≡ true) × (n ≡ k .plus (s .base) i)
   member-bit m =
@@ -89,7 +90,7 @@ positions-rise ws (suc n) i j h l =
         rw (List·getD-append (positions ws n) (n ∷ []) 0 i (omega arith), f) (position-below ws n i (omega arith))
     last before false (inr p) q = absurd (omega arith)
 
--- "rising .. strictly": each member is below every later one
+-- "Members are listed rising or falling": rising, each member is below every later one
 pub members-rise : (k : Kind) → Lawful k → (s : NumberSet (k .Number)) (i j : ℕ) → i < j → j < length (members k s)
     → k .below (getD (members k s) i (k .nought)) (getD (members k s) j (k .nought)) ≡ true
 members-rise k law s i j h l =
@@ -116,7 +117,7 @@ getD-reverse (x ∷ l) i d h =
     (ap (λ (n : ℕ). getD (reverse l ++ (x ∷ [])) n d) f ∙ getD-append-add (reverse l) (x ∷ []) 0 d ∙ ap (λ (n : ℕ). getD (x ∷ l) n d) (sym e)))
     (split-lt i (length l))
 
--- "(falling) strictly": each member is above every later one
+-- "Members are listed rising or falling": falling, each member is above every later one
 pub members-fall : (k : Kind) → Lawful k → (s : NumberSet (k .Number)) (i j : ℕ) → i < j → j < length (reverse (members k s))
     → k .below (getD (reverse (members k s)) j (k .nought)) (getD (reverse (members k s)) i (k .nought)) ≡ true
 members-fall k law s i j h l =
@@ -135,7 +136,7 @@ length-marked place d xs count (suc n) = go (ltb (place (getD xs n d)) count) (l
     go true e = simp length-set e
     go false e = e
 
-none-marked : (i : ℕ) → hasBit noWords i ≡ false
+none-marked : (i : ℕ) → hasBit zeroWords i ≡ false
 none-marked i = ap (λ (w : ℕ). eqb (w / 2 ^ (31 - i % 32) % 2) 1) (zero-at 8 (i / 32)) ∙ ap (λ (w : ℕ). eqb (w % 2) 1) (zero-div (2 ^ (31 - i % 32)))
   where
     zero-at : (m j : ℕ) → _≡_ {A = ℕ} (getD (replicate m 0) j 0) 0
@@ -205,10 +206,13 @@ module _ (k : Kind) (law : Lawful k) (base x : k .Number) (xs : List (k .Number)
   one-least : 1 ≤ law .rank (smaller k base x)
   one-least = omega (arith, law .rank-least, law .rank-above (k .least) (smaller k base x) above)
 
+  words-indexed : markedTo (k .apart low) (k .nought) (x ∷ xs) (made .count) (length (x ∷ xs)) ≡ made .words
+  words-indexed = marked-indexed (k .apart low) (k .nought) (x ∷ xs) (made .count)
+
   pub made-member : List·Memᴰ n (members k made) → List·Memᴰ n (x ∷ xs) × (k .apart low n < made .count)
   made-member m =
       let b = member-bit k made n m in
-      let j = marked-bit (k .apart low) (k .nought) (x ∷ xs) (made .count) (spanned-small (k .apart low last)) (length (x ∷ xs)) (b .0) (b .2) in
+      let j = marked-bit (k .apart low) (k .nought) (x ∷ xs) (made .count) (spanned-small (k .apart low last)) (length (x ∷ xs)) (b .0) (ap (λ (ws : List ℕ). hasBit ws (b .0)) words-indexed ∙ b .2) in
       let y : k .Number = getD (x ∷ xs) (j .0) (k .nought) in
       let e : n ≡ y =
       b .3 ∙ ap (k .plus low) (sym (j .2)) ∙ law .plus-apart low y one-least (none-below k law base (x ∷ xs) r low refl (j .0) (j .1)) in
@@ -219,7 +223,7 @@ module _ (k : Kind) (law : Lawful k) (base x : k .Number) (xs : List (k .Number)
       let j = mem-index (k .nought) n (x ∷ xs) m in
       let f : k .apart low (getD (x ∷ xs) (j .0) (k .nought)) ≡ k .apart low n = ap (k .apart low) (j .2) in
       let b : hasBit (made .words) (k .apart low n) ≡ true =
-      ap (hasBit (made .words)) (sym f)
+      (λ i. hasBit (sym words-indexed i) (sym f i))
       ∙ bit-marked (k .apart low) (k .nought) (x ∷ xs) (made .count) (spanned-small (k .apart low last)) (length (x ∷ xs)) (j .0) (j .1)
       (subst (λ (i : ℕ). i < made .count) (sym f) h) in
       let g : law .rank low ≤ law .rank n = subst (λ (y : k .Number). law .rank low ≤ law .rank y) (j .2) (none-below k law base (x ∷ xs) r low refl (j .0) (j .1)) in

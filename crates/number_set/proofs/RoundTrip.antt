@@ -10,7 +10,7 @@ use Rattle.sequence_number.specs.Outcome.{done, found}
 use Rattle.sequence_number.specs.Lent.{over}
 use Rattle.sequence_number.specs.Word.{wordAt, wordBytes}
 use Rattle.sequence_number.specs.Kind.{Kind}
-use Rattle.number_set.specs.NumberSet.{NumberSet, wordCount, bytesOf}
+use Rattle.number_set.specs.NumberSet.{NumberSet, wordCount, setLength}
 use Rattle.number_set.specs.SetWire.{wordsFrom, takenSet, readSet, readCount, wordsBytes, bitsBytes, setBytes}
 use Rattle.sequence_number.specs.declared.ByteOrder.{ByteOrder}
 use Rattle.sequence_number.proofs.Split.{split-lt}
@@ -46,7 +46,7 @@ module _ (o : ByteOrder) (ws : List ℕ) (all : Words ws) where
       word-append front (wordsBytes o ws m ++ rest) o (length front + 4 * n) (4 * n) refl ∙ word-in m n rest h (omega arith) in
       (λ i. words-back front rest m n h (omega arith) i ++ (w i ∷ [])) ∙ sym (take-suc ws n 0 (omega arith))
 
--- "Reading the written bytes gives the set back (count, base, the words of the count), and takes exactly the measured length"
+-- reading the written bytes gives the set back (base, count, the words of the count), and takes exactly the measured length
 module _ (k : Kind) (law : Lawful k) (o : ByteOrder) (s : NumberSet (k .Number)) (v : law .Valid (s .base)) (all : Words (s .words))
     (small : s .count ≤ 256) (out : List ℕ) where
   abbrev pub back : NumberSet (k .Number)
@@ -91,14 +91,14 @@ module _ (k : Kind) (law : Lawful k) (o : ByteOrder) (s : NumberSet (k .Number))
       (λ i. wordsFrom o (by-words i) (e i) (wordCount (s .count)))
       ∙ words-back o (s .words) all (k .numberBytes o (s .base) ++ wordBytes o (s .count)) rest (wordCount (s .count)) (wordCount (s .count)) few (omega arith)
 
-  long : bytesOf (k .size) (s .count) ≤ length written
+  long : setLength (k .size) (s .count) ≤ length written
   long = omega (arith, length-set-bytes k law o s, length-append (setBytes k o s) rest)
 
-  pub set-back : readSet k o (over (setBytes k o s) out) ≡ done (record { set = back; taken = bytesOf (k .size) (s .count) })
+  pub set-back : readSet k o (over (setBytes k o s) out) ≡ done (record { set = back; taken = setLength (k .size) (s .count) })
   set-back =
       let c : done (s .count) ≡ readCount (k .size) o written = count-done (k .size) o written (s .count) (sym count-back) (omega (arith, long)) small long in
       ap (found (takenSet k o written)) (sym c)
       ∙ (λ i. done (record {
         set = record { base = base-back i; count = s .count; words = all-back i ++ replicate (8 - wordCount (s .count)) 0 };
-        taken = bytesOf (k .size) (s .count);
+        taken = setLength (k .size) (s .count);
       }))

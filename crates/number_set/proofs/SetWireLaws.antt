@@ -15,8 +15,9 @@ use Rattle.sequence_number.specs.Lent.{over}
 use Rattle.sequence_number.specs.Word.{wordAt, wordBytes}
 use Rattle.sequence_number.specs.Kind.{Kind}
 use Rattle.sequence_number.specs.NumberWire.{wrote}
-use Rattle.number_set.specs.NumberSet.{NumberSet, noWords, wordCount, bytesOf}
-use Rattle.number_set.specs.SetWire.{bitCount, readCount, wordsFrom, readWords, Taken, takenSet, readSet, wordsBytes, bitsBytes, setBytes, writeSet, WritesSet}
+use Rattle.number_set.specs.NumberSet.{NumberSet, zeroWords, wordCount, setLength}
+use Rattle.number_set.specs.Inner.{bitCount}
+use Rattle.number_set.specs.SetWire.{readCount, wordsFrom, readWords, Taken, takenSet, readSet, wordsBytes, bitsBytes, setBytes, writeSet, WritesSet}
 use Rattle.sequence_number.specs.declared.ByteOrder.{ByteOrder}
 use Rattle.number_set.specs.declared.set.BitCount.{BitCount}
 use Rattle.number_set.specs.declared.set.BitCount.the-variants as bit-count
@@ -48,11 +49,11 @@ drop-zeros zero m = simp unary-clauses
 drop-zeros (suc n) zero = let e : 0 - suc n ≡ 0 = omega arith in rw e
 drop-zeros (suc n) (suc m) = simp unary-clauses (drop-zeros n m)
 
-pub words-read : (o : ByteOrder) (s : List ℕ) (at n : ℕ) (l : List ℕ) → n ≤ 8 → l ≡ sets noWords 0 (wordsFrom o s at n) → l ≡ readWords o s at n
+pub words-read : (o : ByteOrder) (s : List ℕ) (at n : ℕ) (l : List ℕ) → n ≤ 8 → l ≡ sets zeroWords 0 (wordsFrom o s at n) → l ≡ readWords o s at n
 words-read o s at n l h e =
     let k = length-words o s at n in
-    e ∙ sets-over (wordsFrom o s at n) noWords (omega arith)
-    ∙ ap (λ (i : ℕ). wordsFrom o s at n ++ drop i noWords) k
+    e ∙ sets-over (wordsFrom o s at n) zeroWords (omega arith)
+    ∙ ap (λ (i : ℕ). wordsFrom o s at n ++ drop i zeroWords) k
     ∙ ap (λ (z : List ℕ). wordsFrom o s at n ++ z) (drop-zeros n 8)
 
 -- the count, by the tests that the code makes
@@ -64,29 +65,29 @@ module _ (size : ℕ) (o : ByteOrder) (s : List ℕ) where
     pub count-long : 256 < n → refused 2 ≡ readCount size o s
     count-long p = rw (le-ltb (length s) (size + 4) h, lt-ltb 256 (wordAt o s size) (subst (λ (k : ℕ). 256 < k) e p))
 
-    pub count-cut : n ≤ 256 → length s < bytesOf size n → refused 1 ≡ readCount size o s
+    pub count-cut : n ≤ 256 → length s < setLength size n → refused 1 ≡ readCount size o s
     count-cut p q =
         rw (
           le-ltb (length s) (size + 4) h,
           le-ltb 256 (wordAt o s size) (subst (λ (k : ℕ). k ≤ 256) e p),
-          lt-ltb (length s) (bytesOf size (wordAt o s size)) (subst (λ (k : ℕ). length s < bytesOf size k) e q),
+          lt-ltb (length s) (setLength size (wordAt o s size)) (subst (λ (k : ℕ). length s < setLength size k) e q),
         )
 
-    pub count-done : n ≤ 256 → bytesOf size n ≤ length s → done n ≡ readCount size o s
+    pub count-done : n ≤ 256 → setLength size n ≤ length s → done n ≡ readCount size o s
     count-done p q =
         rw (
           le-ltb (length s) (size + 4) h,
           le-ltb 256 (wordAt o s size) (subst (λ (k : ℕ). k ≤ 256) e p),
-          le-ltb (length s) (bytesOf size (wordAt o s size)) (subst (λ (k : ℕ). bytesOf size k ≤ length s) e q),
+          le-ltb (length s) (setLength size (wordAt o s size)) (subst (λ (k : ℕ). setLength size k ≤ length s) e q),
         )
         (ap done e)
 
   -- a count that is found is at most 256, and its words are there
-  pub count-there : (n : ℕ) → done n ≡ readCount size o s → (n ≤ 256) × (bytesOf size n ≤ length s)
-  count-there n e = go (decLt (length s) (size + 4)) (decLt 256 (wordAt o s size)) (decLt (length s) (bytesOf size (wordAt o s size)))
+  pub count-there : (n : ℕ) → done n ≡ readCount size o s → (n ≤ 256) × (setLength size n ≤ length s)
+  count-there n e = go (decLt (length s) (size + 4)) (decLt 256 (wordAt o s size)) (decLt (length s) (setLength size (wordAt o s size)))
     where
-      go : Dec (length s < size + 4) → Dec (256 < wordAt o s size) → Dec (length s < bytesOf size (wordAt o s size))
-          → (n ≤ 256) × (bytesOf size n ≤ length s)
+      go : Dec (length s < size + 4) → Dec (256 < wordAt o s size) → Dec (length s < setLength size (wordAt o s size))
+          → (n ≤ 256) × (setLength size n ≤ length s)
       go (yes h) a b =
           let r = count-short h in
           let z : _≡_ {A = ℕ} 0 1 = cc in
@@ -102,10 +103,10 @@ module _ (size : ℕ) (o : ByteOrder) (s : List ℕ) where
       go (no h) (no a) (no b) =
           let r = count-done (wordAt o s size) refl (omega arith) (omega arith) (omega arith) in
           let w : n ≡ wordAt o s size = cc in
-          (omega arith, subst (λ (k : ℕ). bytesOf size k ≤ length s) (sym w) (omega arith))
+          (omega arith, subst (λ (k : ℕ). setLength size k ≤ length s) (sym w) (omega arith))
 
   -- the same of what the code's leaf answers
-  pub bits-there : (c : BitCount) (n : ℕ) → bitCount c ≡ readCount size o s → c ≡ bit-count.Bits n → (n ≤ 256) × (bytesOf size n ≤ length s)
+  pub bits-there : (c : BitCount) (n : ℕ) → bitCount c ≡ readCount size o s → c ≡ bit-count.Bits n → (n ≤ 256) × (setLength size n ≤ length s)
   bits-there c n e p = count-there n (sym (ap bitCount p) ∙ e)
 
 -- the answer of reading, from what the count said
@@ -115,14 +116,14 @@ module _ (k : Kind) (o : ByteOrder) (s : List ℕ) {A : Type 0} (answer : Outcom
 
   pub set-read : {c : BitCount} (n : ℕ) → c ≡ bit-count.Bits n → bitCount c ≡ readCount (k .size) o s → (x : k .Number) (ws : List ℕ) → x ≡ k .numberAt o s 0
       → ws ≡ readWords o s (k .size + 4) (wordCount n)
-      → answer (done (record { set = record { base = x; count = n; words = ws }; taken = bytesOf (k .size) n })) ≡ answer (readSet k o s)
+      → answer (done (record { set = record { base = x; count = n; words = ws }; taken = setLength (k .size) n })) ≡ answer (readSet k o s)
   set-read n p e x ws f g =
-      (λ i. answer (done (record { set = record { base = f i; count = n; words = g i }; taken = bytesOf (k .size) n })))
+      (λ i. answer (done (record { set = record { base = f i; count = n; words = g i }; taken = setLength (k .size) n })))
       ∙ ap (λ (y : Outcome ℕ). answer (found (takenSet k o s) y)) (sym (ap bitCount p) ∙ e)
 
 -- a refusal has its number: it is never 0
 pub read-numbered : (k : Kind) (o : ByteOrder) (s : List ℕ) → readSet k o s ≡ refused 0 → ⊥
-read-numbered k o s e = go (ltb (length s) (k .size + 4)) (ltb 256 (wordAt o s (k .size))) (ltb (length s) (bytesOf (k .size) (wordAt o s (k .size)))) e
+read-numbered k o s e = go (ltb (length s) (k .size + 4)) (ltb 256 (wordAt o s (k .size))) (ltb (length s) (setLength (k .size) (wordAt o s (k .size)))) e
   where
     go : (a b c : Bool)
         → found (takenSet k o s) (cond a (refused 1) (cond b (refused 2) (cond c (refused 1) (done (wordAt o s (k .size)))))) ≡ refused 0 → ⊥
@@ -159,24 +160,24 @@ length-bits o count ws =
     let d = length-words-bytes o ws (wordCount count) in
     omega (arith, length-append (wordBytes o count) (wordsBytes o ws (wordCount count)))
 
-pub length-set-bytes : (k : Kind) → Lawful k → (o : ByteOrder) (s : NumberSet (k .Number)) → length (setBytes k o s) ≡ bytesOf (k .size) (s .count)
+pub length-set-bytes : (k : Kind) → Lawful k → (o : ByteOrder) (s : NumberSet (k .Number)) → length (setBytes k o s) ≡ setLength (k .size) (s .count)
 length-set-bytes k law o s =
     let a = law .length-number o (s .base) in
     let b = length-bits o (s .count) (s .words) in
     omega (arith, length-append (k .numberBytes o (s .base)) (bitsBytes o (s .count) (s .words)))
 
 -- what is written was allowed
-pub wrote-means : (size count room : ℕ) {w : Written} (n : ℕ) → w ≡ Wrote n → wrote w ≡ writeSet size count room → (count ≤ 256) × (bytesOf size count ≤ room)
-wrote-means size count room {w} n q p = go (decLt 256 count) (decLt room (bytesOf size count)) (sym (ap wrote q) ∙ p)
+pub wrote-means : (size count room : ℕ) {w : Written} (n : ℕ) → w ≡ Wrote n → wrote w ≡ writeSet size count room → (count ≤ 256) × (setLength size count ≤ room)
+wrote-means size count room {w} n q p = go (decLt 256 count) (decLt room (setLength size count)) (sym (ap wrote q) ∙ p)
   where
-    go : Dec (256 < count) → Dec (room < bytesOf size count) → done n ≡ writeSet size count room → (count ≤ 256) × (bytesOf size count ≤ room)
+    go : Dec (256 < count) → Dec (room < setLength size count) → done n ≡ writeSet size count room → (count ≤ 256) × (setLength size count ≤ room)
     go (yes h) d e =
         let r : writeSet size count room ≡ refused 2 = rw (lt-ltb 256 count h) in
         let z : _≡_ {A = ℕ} 0 1 = cc in
         absurd (omega arith)
     go (no f) (yes h) e =
         let g : count ≤ 256 = omega arith in
-        let r : writeSet size count room ≡ refused 3 = rw (le-ltb 256 count g, lt-ltb room (bytesOf size count) h) in
+        let r : writeSet size count room ≡ refused 3 = rw (le-ltb 256 count g, lt-ltb room (setLength size count) h) in
         let z : _≡_ {A = ℕ} 0 1 = cc in
         absurd (omega arith)
     go (no f) (no g) e = (omega arith, omega arith)

@@ -11,7 +11,8 @@ use lib.Dec.{ltb, T}
 use borrow.Author.Tests.{lt-ltb, le-ltb}
 use Rattle.sequence_number.specs.Outcome.{Outcome, refused, done}
 use Rattle.sequence_number.specs.Kind.{Kind}
-use Rattle.number_set.specs.Bitmap.{hasBit, onlyIf, positions, wordPositions}
+use Rattle.number_set.specs.Bitmap.{hasBit, onlyIf, positions}
+use Rattle.number_set.specs.Inner.{wordPositions}
 use Rattle.number_set.specs.NumberSet.{NumberSet, members}
 use Rattle.number_set.specs.Walk.{walked, anyPast, inOrder, Walks}
 use Rattle.number_set.specs.declared.set.Walked.{Walked}

@@ -1,4 +1,4 @@
--- Laws of the bits of one word: `wordPositions w` of `specs/Bitmap.antt`. Assumes nothing.
+-- Laws of the bits of one word: `wordPositions w` of `specs/Inner.antt`. Assumes nothing.
 use Prim.Native.Nat.{ℕ, zero, suc, _+_, _*_, _/_, _%_, _^_, _-_, _<_, _≤_, min}
 use mathlib.Core.Path.{_≡_, refl, ap, _∙_, sym, subst}
 use mathlib.Core.Bool.{Bool, true, false, _&&_}
@@ -10,7 +10,8 @@ use lib.ListN.{length, getD, length-append}
 use lib.Dec.{eqb, ltb}
 use lib.Pow.{pow-add, pow-pos, shl-shr, shr-shr, field, mod-mod-pow}
 use borrow.Author.Tests.{lt-ltb, le-ltb, eq-eqb, ne-eqb}
-use Rattle.number_set.specs.Bitmap.{hasBit, onlyIf, positions, wordPositions}
+use Rattle.number_set.specs.Bitmap.{hasBit, onlyIf, positions}
+use Rattle.number_set.specs.Inner.{wordPositions}
 
 -- ---- lists of positions
 

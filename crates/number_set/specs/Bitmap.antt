@@ -1,4 +1,4 @@
--- The bits of a set's words (RTPS 2.5, 9.4.2.6). Assumes nothing.
+-- The bits of a set's words (RTPS 2.5, 9.4.2.6; of fragments 9.4.2.8). Assumes nothing.
 use Prim.Native.Nat.{ℕ, zero, suc, _+_, _*_, _/_, _%_, _^_, _-_}
 use mathlib.Core.Bool.{Bool, true, false}
 use mathlib.Core.List.{List, [], _∷_, _++_}
@@ -17,6 +17,7 @@ withBit w s = w + (1 - w / 2 ^ s % 2) * 2 ^ s
 abbrev pub setBit : List ℕ → ℕ → List ℕ
 setBit ws i = set ws (i / 32) (withBit (getD ws (i / 32) 0) (31 - i % 32))
 
+-- the position of a bit that is set, nothing for one that is not
 abbrev pub onlyIf : Bool → ℕ → List ℕ
 onlyIf true i = i ∷ []
 onlyIf false i = []
@@ -25,7 +26,3 @@ onlyIf false i = []
 abbrev pub positions : List ℕ → ℕ → List ℕ
 positions ws zero = []
 positions ws (suc n) = positions ws n ++ onlyIf (hasBit ws n) n
-
--- the set bits of one word, rising: for the functions below the public calls, no public promise cites it
-unfoldable pub wordPositions : ℕ → List ℕ
-wordPositions w = positions (w ∷ []) 32

@@ -3,3 +3,4 @@ pub mod NumberSet
 pub mod SetWire
 pub mod Make
 pub mod Walk
+pub mod Inner

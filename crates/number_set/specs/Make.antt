@@ -1,5 +1,5 @@
 -- "Making a set from a base and a strictly rising list". Assumes nothing.
-use Prim.Native.Nat.{ℕ, zero, suc, _+_, _-_}
+use Prim.Native.Nat.{ℕ, _+_}
 use mathlib.Core.Bool.{Bool, true, cond, _&&_}
 use mathlib.Core.List.{List, [], _∷_}
 use lib.ListN.{length, getD}
@@ -8,17 +8,15 @@ use lib.IntN.{ℤ, pos}
 use Rattle.sequence_number.specs.Outcome.{Outcome, refused, done}
 use Rattle.sequence_number.specs.Kind.{Kind}
 use Rattle.number_set.specs.Bitmap.{setBit}
-use Rattle.number_set.specs.NumberSet.{NumberSet, noWords, emptyAt}
+use Rattle.number_set.specs.NumberSet.{NumberSet, sequenceStruct, fragmentStruct, zeroWords, emptyAt}
 use Rattle.number_set.specs.declared.set.SequenceNumberSetMade.{SequenceNumberSetMade}
 use Rattle.number_set.specs.declared.set.FragmentNumberSetMade.{FragmentNumberSetMade}
 
--- whether each of the first n elements is below the next
-abbrev pub risingTo : {A : Type 0} → (A → A → Bool) → A → List A → ℕ → Bool
-risingTo below d xs zero = true
-risingTo below d xs (suc n) = risingTo below d xs n && below (getD xs n d) (getD xs (suc n) d)
-
+-- "strictly rising": each element is below the next
 abbrev pub rising : (k : Kind) → List (k .Number) → Bool
-rising k xs = risingTo (k .below) (k .nought) xs (length xs - 1)
+rising k [] = true
+rising k (x ∷ []) = true
+rising k (x ∷ y ∷ xs) = k .below x y && rising k (y ∷ xs)
 
 -- "base becomes the smaller of base and first element"
 abbrev pub smaller : (k : Kind) → k .Number → k .Number → k .Number
@@ -28,11 +26,10 @@ smaller k a b = cond (k .below b a) b a
 abbrev pub spanned : ℕ → ℕ
 spanned away = cond (leb 256 away) 256 (away + 1)
 
--- "list members through last are set": those of the first n elements whose place is below the count
-abbrev pub markedTo : {A : Type 0} → (A → ℕ) → A → List A → ℕ → ℕ → List ℕ
-markedTo place d xs count zero = noWords
-markedTo place d xs count (suc n) =
-    cond (ltb (place (getD xs n d)) count) (setBit (markedTo place d xs count n) (place (getD xs n d))) (markedTo place d xs count n)
+-- "list members through last are set": in the words, the bit of each element whose place is below the count
+abbrev pub setBits : {A : Type 0} → (A → ℕ) → ℕ → List ℕ → List A → List ℕ
+setBits place count ws [] = ws
+setBits place count ws (x ∷ xs) = setBits place count (cond (ltb (place x) count) (setBit ws (place x)) ws) xs
 
 -- the set from low through last
 abbrev pub setFrom : (k : Kind) → k .Number → k .Number → List (k .Number) → NumberSet (k .Number)
@@ -40,7 +37,7 @@ setFrom k low last xs =
     record {
       base = low;
       count = spanned (k .apart low last);
-      words = markedTo (k .apart low) (k .nought) xs (spanned (k .apart low last)) (length xs);
+      words = setBits (k .apart low) (spanned (k .apart low last)) zeroWords xs;
     }
 
 -- "base below 1 then gives the empty set at 1", else the set from there on
@@ -58,9 +55,9 @@ makeSet k base xs = cond (rising k xs) (done (setOver k base xs)) (refused 15)
 
 -- the answers of making: a refusal has the empty set at 0
 abbrev pub sequenceSetMade : Outcome (NumberSet ℤ) → SequenceNumberSetMade
-sequenceSetMade (refused n) = record { refusal = n; set = record { base = pos 0; count = 0; words = noWords } }
-sequenceSetMade (done s) = record { refusal = 0; set = record { base = s .base; count = s .count; words = s .words } }
+sequenceSetMade (refused n) = record { refusal = n; set = sequenceStruct (emptyAt (pos 0)) }
+sequenceSetMade (done s) = record { refusal = 0; set = sequenceStruct s }
 
 abbrev pub fragmentSetMade : Outcome (NumberSet ℕ) → FragmentNumberSetMade
-fragmentSetMade (refused n) = record { refusal = n; set = record { base = 0; count = 0; words = noWords } }
-fragmentSetMade (done s) = record { refusal = 0; set = record { base = s .base; count = s .count; words = s .words } }
+fragmentSetMade (refused n) = record { refusal = n; set = fragmentStruct (emptyAt 0) }
+fragmentSetMade (done s) = record { refusal = 0; set = fragmentStruct s }

@@ -1,4 +1,4 @@
--- A number set: base, bit count, words. Assumes nothing.
+-- A number set: base, bit count, words (RTPS 2.5, 8.3.5.5 and 9.4.2.6; of fragments 8.3.5.7 and 9.4.2.8). Assumes nothing.
 use Prim.Native.Nat.{ℕ, _+_, _*_, _/_}
 use mathlib.Core.List.{List, map}
 use lib.ListN.{replicate}
@@ -20,12 +20,19 @@ sequenceSet s = record { base = s .base; count = s .count; words = s .words }
 abbrev pub fragmentSet : FragmentNumberSet → NumberSet ℕ
 fragmentSet s = record { base = s .base; count = s .count; words = s .words }
 
--- "Words held by value number eight"
-abbrev pub noWords : List ℕ
-noWords = replicate 8 0
+-- and a set as the code's struct
+abbrev pub sequenceStruct : NumberSet ℤ → SequenceNumberSet
+sequenceStruct s = record { base = s .base; count = s .count; words = s .words }
+
+abbrev pub fragmentStruct : NumberSet ℕ → FragmentNumberSet
+fragmentStruct s = record { base = s .base; count = s .count; words = s .words }
+
+-- "Words held by value number eight": all zero
+abbrev pub zeroWords : List ℕ
+zeroWords = replicate 8 0
 
 abbrev pub emptyAt : {N : Type 0} → N → NumberSet N
-emptyAt base = record { base = base; count = 0; words = noWords }
+emptyAt base = record { base = base; count = 0; words = zeroWords }
 
 -- "Bit i .. stands for base + i": the members, rising. Unused bits of the last word and words past the count are not looked at
 abbrev pub members : (k : Kind) → NumberSet (k .Number) → List (k .Number)
@@ -36,5 +43,5 @@ abbrev pub wordCount : ℕ → ℕ
 wordCount count = (count + 31) / 32
 
 -- "Length is 8 (sequence) or 4 (fragment), plus 4, plus 4 for each word": with a base of so many bytes
-abbrev pub bytesOf : ℕ → ℕ → ℕ
-bytesOf size count = size + 4 + 4 * wordCount count
+abbrev pub setLength : ℕ → ℕ → ℕ
+setLength size count = size + 4 + 4 * wordCount count

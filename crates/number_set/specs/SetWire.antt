@@ -1,4 +1,4 @@
--- Reading, writing and measuring a set: what each call promises. Assumes nothing.
+-- Reading, writing and measuring a set (RTPS 2.5, 9.4.2.6; of fragments 9.4.2.8): what each call promises. Assumes nothing.
 use Prim.Native.Nat.{ℕ, zero, suc, _+_, _*_, _-_}
 use mathlib.Core.Path.{_≡_}
 use mathlib.Core.Bool.{cond}
@@ -10,31 +10,25 @@ use Rattle.sequence_number.specs.Outcome.{Outcome, refused, done, found, left}
 use Rattle.sequence_number.specs.Word.{wordAt, wordBytes}
 use Rattle.sequence_number.specs.Kind.{Kind}
 use Rattle.sequence_number.specs.NumberWire.{wrote}
-use Rattle.number_set.specs.NumberSet.{NumberSet, noWords, wordCount, bytesOf}
+use Rattle.number_set.specs.NumberSet.{NumberSet, sequenceStruct, fragmentStruct, emptyAt, wordCount, setLength}
 use Rattle.sequence_number.specs.declared.ByteOrder.{ByteOrder}
 use Rattle.sequence_number.specs.declared.wire.Written.{Written}
 use Rattle.number_set.specs.declared.set.SequenceNumberSetRead.{SequenceNumberSetRead}
 use Rattle.number_set.specs.declared.set.FragmentNumberSetRead.{FragmentNumberSetRead}
-use Rattle.number_set.specs.declared.set.BitCount.{BitCount}
 use Rattle.number_set.specs.declared.set.Measured.{Measured}
-use Rattle.number_set.specs.declared.set.BitCount.the-variants as bit-count
-use Rattle.number_set.specs.declared.set.Measured.the-variants as measured-as
+use Rattle.number_set.specs.declared.set.Measured.the-variants.{Refused, Bytes}
 
--- the paper's number and values for each answer
-abbrev pub bitCount : BitCount → Outcome ℕ
-bitCount (bit-count.Refused n) = refused n
-bitCount (bit-count.Bits n) = done n
-
+-- the paper's number and value for the answer of measuring
 abbrev pub measured : Measured → Outcome ℕ
-measured (measured-as.Refused n) = refused n
-measured (measured-as.Bytes n) = done n
+measured (Refused n) = refused n
+measured (Bytes n) = done n
 
 -- the count of the set whose base takes so many bytes: "1 for base or count, 2, 1 for words"
 abbrev pub readCount : ℕ → ByteOrder → List ℕ → Outcome ℕ
 readCount size o s =
     cond (ltb (length s) (size + 4)) (refused 1)
     (cond (ltb 256 (wordAt o s size)) (refused 2)
-    (cond (ltb (length s) (bytesOf size (wordAt o s size))) (refused 1)
+    (cond (ltb (length s) (setLength size (wordAt o s size))) (refused 1)
     (done (wordAt o s size))))
 
 -- n words from a place on
@@ -55,7 +49,7 @@ abbrev pub takenSet : (k : Kind) → ByteOrder → List ℕ → ℕ → Taken (k
 takenSet k o s count =
     record {
       set = record { base = k .numberAt o s 0; count = count; words = readWords o s (k .size + 4) (wordCount count) };
-      taken = bytesOf (k .size) count;
+      taken = setLength (k .size) count;
     }
 
 -- the set at the front of the bytes; bytes after it are not looked at
@@ -64,14 +58,12 @@ readSet k o s = found (takenSet k o s) (readCount (k .size) o s)
 
 -- the answers of reading: a refusal has the empty set at 0, and takes nothing
 abbrev pub sequenceSetRead : Outcome (Taken ℤ) → SequenceNumberSetRead
-sequenceSetRead (refused n) = record { refusal = n; taken = 0; set = record { base = pos 0; count = 0; words = noWords } }
-sequenceSetRead (done t) =
-    record { refusal = 0; taken = t .taken; set = record { base = t .set .base; count = t .set .count; words = t .set .words } }
+sequenceSetRead (refused n) = record { refusal = n; taken = 0; set = sequenceStruct (emptyAt (pos 0)) }
+sequenceSetRead (done t) = record { refusal = 0; taken = t .taken; set = sequenceStruct (t .set) }
 
 abbrev pub fragmentSetRead : Outcome (Taken ℕ) → FragmentNumberSetRead
-fragmentSetRead (refused n) = record { refusal = n; taken = 0; set = record { base = 0; count = 0; words = noWords } }
-fragmentSetRead (done t) =
-    record { refusal = 0; taken = t .taken; set = record { base = t .set .base; count = t .set .count; words = t .set .words } }
+fragmentSetRead (refused n) = record { refusal = n; taken = 0; set = fragmentStruct (emptyAt 0) }
+fragmentSetRead (done t) = record { refusal = 0; taken = t .taken; set = fragmentStruct (t .set) }
 
 -- the bytes of the first n words
 abbrev pub wordsBytes : ByteOrder → List ℕ → ℕ → List ℕ
@@ -90,8 +82,8 @@ setBytes k o s = k .numberBytes o (s .base) ++ bitsBytes o (s .count) (s .words)
 abbrev pub writeSet : ℕ → ℕ → ℕ → Outcome ℕ
 writeSet size count room =
     cond (ltb 256 count) (refused 2)
-    (cond (ltb room (bytesOf size count)) (refused 3)
-    (done (bytesOf size count)))
+    (cond (ltb room (setLength size count)) (refused 3)
+    (done (setLength size count)))
 
 -- what writing a set to the lent bytes promises: the answer, and each byte
 pub record WritesSet (k : Kind) (o : ByteOrder) (s : NumberSet (k .Number)) (before : List ℕ) (r : Written) (after : List ℕ) : Type 0 where
@@ -100,4 +92,4 @@ pub record WritesSet (k : Kind) (o : ByteOrder) (s : NumberSet (k .Number)) (bef
 
 -- "measured: 2", with a base of so many bytes
 abbrev pub measureSet : ℕ → ℕ → Outcome ℕ
-measureSet size count = cond (ltb 256 count) (refused 2) (done (bytesOf size count))
+measureSet size count = cond (ltb 256 count) (refused 2) (done (setLength size count))

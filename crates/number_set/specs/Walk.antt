@@ -1,7 +1,7 @@
 -- Walking a set: "Members are listed rising or falling". Assumes nothing.
 use Prim.Native.Nat.{ℕ}
 use mathlib.Core.Path.{_≡_}
-use mathlib.Core.Bool.{Bool, true, false, cond, not, _||_}
+use mathlib.Core.Bool.{Bool, false, cond, not, _||_}
 use mathlib.Core.List.{List, [], _∷_, reverse}
 use lib.ListN.{length}
 use lib.Dec.{ltb}
@@ -17,7 +17,7 @@ abbrev pub walked : Walked → Outcome ℕ
 walked (Refused n) = refused n
 walked (Listed n) = done n
 
--- whether a position does not fit
+-- row 4 of the refusal table: whether there is "a member past its type in a set walked", by its position
 abbrev pub anyPast : (ℕ → Bool) → List ℕ → Bool
 anyPast fits [] = false
 anyPast fits (p ∷ ps) = not (fits p) || anyPast fits ps
@@ -30,6 +30,7 @@ walkSet k s room =
     (cond (ltb room (length (members k s))) (refused 3)
     (done (length (members k s)))))
 
+-- rising where up holds, else falling
 abbrev pub inOrder : {A : Type 0} → Bool → List A → List A
 inOrder up l = cond up l (reverse l)
 

@@ -11,7 +11,8 @@ ghost use lib.ListN.{length, getD};
 ghost use lib.IntN.{pos};
 ghost use Rattle.sequence_number.specs.Number.{natOf};
 ghost use Rattle.sequence_number.specs.Kind.{sequence, fragment};
-ghost use Rattle.number_set.specs.Make.{rising, smaller, spanned as spannedS, markedTo, makeSet, sequenceSetMade, fragmentSetMade};
+ghost use Rattle.number_set.specs.Inner.{markedTo};
+ghost use Rattle.number_set.specs.Make.{rising, smaller, spanned as spannedS, makeSet, sequenceSetMade, fragmentSetMade};
 
 // The count of a set whose last member is so far from its base: of either width.
 fn spanned(away: u64) -> u32

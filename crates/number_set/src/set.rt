@@ -12,7 +12,8 @@ ghost use lib.Seq.{sets};
 ghost use Rattle.sequence_number.specs.Kind.{sequence, fragment};
 ghost use Rattle.sequence_number.specs.NumberWire.{wrote};
 ghost use Rattle.number_set.specs.NumberSet.{sequenceSet, fragmentSet, wordCount};
-ghost use Rattle.number_set.specs.SetWire.{bitCount, measured, readCount, readWords, readSet, sequenceSetRead, fragmentSetRead, wordsBytes, bitsBytes, writeSet, WritesSet, measureSet};
+ghost use Rattle.number_set.specs.Inner.{bitCount};
+ghost use Rattle.number_set.specs.SetWire.{measured, readCount, readWords, readSet, sequenceSetRead, fragmentSetRead, wordsBytes, bitsBytes, writeSet, WritesSet, measureSet};
 
 pub struct SequenceNumberSet {
     pub base: i64,
@@ -51,7 +52,7 @@ pub struct FragmentNumberSetMade {
 }
 
 // A refusal, or the count of a set's bits.
-pub enum BitCount {
+enum BitCount {
     Refused(u8),
     Bits(u32),
 }

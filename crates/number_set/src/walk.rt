@@ -13,7 +13,8 @@ ghost use lib.Dec.{ltb};
 ghost use lib.Seq.{sets};
 ghost use Rattle.sequence_number.specs.Outcome.{refused, done};
 ghost use Rattle.sequence_number.specs.Kind.{sequence, fragment};
-ghost use Rattle.number_set.specs.Bitmap.{hasBit, positions, wordPositions};
+ghost use Rattle.number_set.specs.Bitmap.{hasBit, positions};
+ghost use Rattle.number_set.specs.Inner.{wordPositions};
 ghost use Rattle.number_set.specs.NumberSet.{sequenceSet, fragmentSet};
 ghost use Rattle.number_set.specs.Walk.{walked, anyPast, Walks};
 

@@ -1,11 +1,11 @@
 -- The rows of numbers and sets, over the kind of number. Assumes nothing.
-use Prim.Native.Nat.{ℕ, zero, suc, _+_, _-_, _<_, _^_}
+use Prim.Native.Nat.{ℕ, zero, suc, _+_, _<_, _^_}
 use native.Mathlib.Omega.{arith}
 use mathlib.Core.Path.{_≡_, refl, sym, ap, subst, _∙_}
 use mathlib.Core.Bool.{Bool, true, false, not}
 use mathlib.Core.Logic.{⊎-elim}
 use mathlib.Core.List.{List, [], _∷_, List·Memᴰ, Memᴰ·map, Memᴰ·of-map, List·Memᴰ·head, List·Memᴰ·tail, List·Memᴰ·not-nil, List·Memᴰ·cases-cons}
-use lib.ListN.{length, getD}
+use lib.ListN.{length}
 use lib.Dec.{T}
 use lib.IntN.{ℤ, pos, _+ℤ_}
 use lib.Signed.{ltZ-yes, ltZ-no, clashℤ}
@@ -15,15 +15,15 @@ use Rattle.sequence_number.specs.Kind.{Kind, sequence, fragment}
 use Rattle.number_set.specs.Bitmap.{positions}
 use Rattle.sequence_number.specs.Word.{wordAt}
 use Rattle.sequence_number.specs.NumberWire.{readNumber, writeNumber}
-use Rattle.number_set.specs.NumberSet.{NumberSet, members, bytesOf}
+use Rattle.number_set.specs.NumberSet.{NumberSet, members, setLength}
 use Rattle.number_set.specs.SetWire.{Taken, readSet, takenSet, setBytes, writeSet, measureSet}
-use Rattle.number_set.specs.Make.{risingTo, rising, makeSet}
+use Rattle.number_set.specs.Make.{rising, makeSet}
 use Rattle.number_set.specs.Walk.{walkSet, anyPast, inOrder}
 use Rattle.sequence_number.specs.declared.ByteOrder.{ByteOrder}
-use Rattle.sequence_number.proofs.Split.{split, split-lt}
+use Rattle.sequence_number.proofs.Split.{split}
 use Rattle.sequence_number.proofs.KindLaws.{Lawful}
 use Rattle.number_set.proofs.SetWireLaws.{length-set-bytes}
-use Rattle.refusals.specs.RefusalTable.{Row, Verdict, Exactly, verdict, numbered, Alone, readNumberRows, writeNumberRows, readSetRows, walkRows, writeSetRows, measureSetRows, makeSetRows, ReadNumber, WriteNumber, ReadSet, WalkSet, WriteSet, MeasureSet, MakeSet, PastSequence, PastFragment}
+use Rattle.refusals.specs.RefusalTable.{Row, Verdict, Exactly, verdict, numbered, Alone, readNumberRows, writeNumberRows, readSetRows, walkRows, writeSetRows, measureSetRows, makeSetRows, StrictlyRising, ReadNumber, WriteNumber, ReadSet, WalkSet, WriteSet, MeasureSet, MakeSet, PastSequence, PastFragment}
 use Rattle.refusals.proofs.RowLaws.{none-left, asks, asks-not, asks-less, positive, as-number, by-number, left-refused, and-true}
 
 -- ---- what is found, or why it is refused
@@ -40,7 +40,7 @@ module _ (k : Kind) where
       let reads : Outcome ℕ → Verdict = λ x. verdict (found (takenSet k o s) x) in
       let count : ℕ = wordAt o s (k .size) in
       asks-less reads refl (length s) (k .size + 4)
-      (λ a. asks-less reads refl 256 count (λ b. asks-less reads refl (length s) (bytesOf (k .size) count) (λ c. none-left)))
+      (λ a. asks-less reads refl 256 count (λ b. asks-less reads refl (length s) (setLength (k .size) count) (λ c. none-left)))
 
 module _ (k : Kind) (law : Lawful k) (o : ByteOrder) where
   pub write-number-exactly : (n : k .Number) (out : List ℕ) → Exactly (verdict (writeNumber k (length out))) (writeNumberRows k o n out)
@@ -49,41 +49,27 @@ module _ (k : Kind) (law : Lawful k) (o : ByteOrder) where
   pub write-set-exactly : (s : NumberSet (k .Number)) (out : List ℕ) → Exactly (verdict (writeSet (k .size) (s .count) (length out))) (writeSetRows k o s out)
   write-set-exactly s out =
       rw (length-set-bytes k law o s)
-      (asks-less verdict refl 256 (s .count) (λ a. asks-less verdict refl (length out) (bytesOf (k .size) (s .count)) (λ b. none-left)))
+      (asks-less verdict refl 256 (s .count) (λ a. asks-less verdict refl (length out) (setLength (k .size) (s .count)) (λ b. none-left)))
 
 -- ---- rising lists
 
-module _ {A : Type 0} (below : A → A → Bool) (d : A) (xs : List A) where
-  -- the test over the first n elements, and each of its steps
-  steps : (n : ℕ) → risingTo below d xs n ≡ true → (i : ℕ) → i < n → below (getD xs i d) (getD xs (suc i) d) ≡ true
-  steps zero e i h = absurd (omega arith)
-  steps (suc n) e i h =
-      let t = and-true (risingTo below d xs n) (below (getD xs n d) (getD xs (suc n) d)) e in
-      ⊎-elim (λ p. steps n (t .0) i p)
-      (λ p. let z : i ≡ n = omega arith in rw z (t .1))
-      (split-lt i n)
-
-  stepped : (n : ℕ) → ((i : ℕ) → i < n → below (getD xs i d) (getD xs (suc i) d) ≡ true) → risingTo below d xs n ≡ true
-  stepped zero f = refl
-  stepped (suc n) f = rw (stepped n (λ i h. f i (omega arith))) (f n (omega arith))
-
-  abbrev Rises : Type 0
-  Rises = (i : ℕ) → suc i < length xs → below (getD xs i d) (getD xs (suc i) d) ≡ true
-
-  rises : risingTo below d xs (length xs - 1) ≡ true → Rises
-  rises e i h = steps (length xs - 1) e i (omega arith)
-
-  falls : risingTo below d xs (length xs - 1) ≡ false → Rises → ⊥
-  falls e f =
-      let t : risingTo below d xs (length xs - 1) ≡ true = stepped (length xs - 1) (λ i h. f i (omega arith)) in
-      let z : _≡_ {A = ℕ} 0 1 = cc in omega arith
-
 module _ (k : Kind) where
+  rises : (xs : List (k .Number)) → rising k xs ≡ true → StrictlyRising k xs
+  rises [] e i h = absurd (omega arith)
+  rises (x ∷ []) e i h = absurd (omega arith)
+  rises (x ∷ y ∷ xs) e zero h = and-true (k .below x y) (rising k (y ∷ xs)) e .0
+  rises (x ∷ y ∷ xs) e (suc i) h = rises (y ∷ xs) (and-true (k .below x y) (rising k (y ∷ xs)) e .1) i (omega arith)
+
+  risen : (xs : List (k .Number)) → StrictlyRising k xs → rising k xs ≡ true
+  risen [] f = refl
+  risen (x ∷ []) f = refl
+  risen (x ∷ y ∷ xs) f = rw (f 0 (omega arith)) (risen (y ∷ xs) (λ i h. f (suc i) (omega arith)))
+
   pub make-exactly : (base : k .Number) (xs : List (k .Number)) → Exactly (verdict (makeSet k base xs)) (makeSetRows k xs)
   make-exactly base xs =
       asks-not verdict refl (rising k xs)
-      (λ f. falls (k .below) (k .nought) xs f)
-      (λ t g. g (rises (k .below) (k .nought) xs t))
+      (λ f s. let t = risen xs s in let z : _≡_ {A = ℕ} 0 1 = cc in omega arith)
+      (λ t g. g (rises xs t))
       (λ t. none-left)
 
 -- ---- a member past its type

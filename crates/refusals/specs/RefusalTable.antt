@@ -27,7 +27,7 @@ use Rattle.sequence_number.specs.Number.{numberOf}
 use Rattle.sequence_number.specs.Kind.{Kind, sequence, fragment}
 use Rattle.sequence_number.specs.Word.{wordAt}
 use Rattle.sequence_number.specs.NumberWire.{readSequence, readFragment, wrote, readNumber, Writes}
-use Rattle.number_set.specs.NumberSet.{NumberSet, members, bytesOf}
+use Rattle.number_set.specs.NumberSet.{NumberSet, members, setLength}
 use Rattle.number_set.specs.SetWire.{Taken, setBytes, readSet, sequenceSetRead, fragmentSetRead, measured, measureSet, WritesSet}
 use Rattle.number_set.specs.Make.{makeSet, sequenceSetMade, fragmentSetMade}
 use Rattle.number_set.specs.Walk.{walked, Walks}
@@ -147,7 +147,7 @@ abbrev pub readSetRows : Kind → ByteOrder → List ℕ → List Row
 readSetRows k o s =
     row 1 (length s < k .size + 4)
     ∷ row 2 (256 < wordAt o s (k .size))
-    ∷ row 1 (length s < bytesOf (k .size) (wordAt o s (k .size)))
+    ∷ row 1 (length s < setLength (k .size) (wordAt o s (k .size)))
     ∷ []
 
 abbrev pub ReadSet : (k : Kind) {R : Type 0} → (Outcome (Taken (k .Number)) → R) → (R → ℕ) → Type 0

@@ -18,7 +18,7 @@ pub record Kind : Type 1 where
   -- the number that starts at a place of the bytes
   pub numberAt : ByteOrder → List ℕ → ℕ → Number
   pub numberBytes : ByteOrder → Number → List ℕ
-  -- 0, which a refused answer holds, and 1, the least number of a made set
+  -- 0, which is read past a list's end, and 1, the least member of a made set
   pub nought : Number
   pub least : Number
   -- base + i, and whether it is a number of the type
@@ -52,7 +52,7 @@ sequence =
       apart = λ a b. natOf b - natOf a;
     }
 
--- "A fragment number is unsigned 32-bit"
+-- "A fragment number is unsigned 32-bit": one word (RTPS 2.5, 8.3.5.6 and 9.4.2.7)
 abbrev pub fragment : Kind
 fragment =
     record {

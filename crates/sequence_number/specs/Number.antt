@@ -4,7 +4,7 @@ use mathlib.Core.Bool.{Bool, true, false, cond, _&&_}
 use lib.Dec.{ltb}
 use lib.IntN.{ℤ, pos, negsuc}
 
--- 2^63 - 1, the greatest sequence number, which no call takes: its successor is none
+-- 2^63 - 1, the greatest sequence number: it has no successor, so it is never received, marked or tracked
 abbrev pub top : ℕ
 top = 9223372036854775807
 

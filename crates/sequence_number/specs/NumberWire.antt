@@ -1,4 +1,4 @@
--- Reading and writing one number: what each call promises. Assumes nothing.
+-- Reading and writing one number (RTPS 2.5, 9.4.2.5 and 9.4.2.7): what each call promises. Assumes nothing.
 use Prim.Native.Nat.{ℕ}
 use mathlib.Core.Path.{_≡_}
 use mathlib.Core.Bool.{cond}

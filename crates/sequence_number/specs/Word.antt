@@ -1,4 +1,4 @@
--- Words of four bytes in a stream, in either byte order (RTPS 2.5, 9.4: both CDR encodings). Assumes nothing.
+-- Words of four bytes in a stream, in either byte order: what numbers and sets are made of (RTPS 2.5, 9.4.2.5 to 9.4.2.8). Assumes nothing.
 use Prim.Native.Nat.{ℕ, _+_, _*_, _/_, _%_}
 use mathlib.Core.List.{List, [], _∷_}
 use lib.ListN.{getD}

@@ -1,7 +1,7 @@
 -- `number_set::make::mark_fragment` meets its contract: the elements below j are marked.
 -- Assumes nothing.
 use Rattle.number_set.proofs.MakeLaws.{mark-yes, mark-no}
-use Rattle.number_set.specs.Make.{markedTo}
+use Rattle.number_set.specs.Inner.{markedTo}
 use lib.ListN.{length, getD, set}
 use native.Mathlib.Omega.{arith}
 use mathlib.Core.Logic.{⊎-elim}

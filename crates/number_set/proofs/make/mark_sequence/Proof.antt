@@ -6,7 +6,7 @@ use mir.Syntax.{w64}
 use mathlib.Core.Path.{subst}
 use Prim.Native.Nat.{_<_}
 use Rattle.number_set.proofs.MakeLaws.{mark-yes, mark-no}
-use Rattle.number_set.specs.Make.{markedTo}
+use Rattle.number_set.specs.Inner.{markedTo}
 use Rattle.sequence_number.specs.Number.{natOf}
 use lib.IntN.{ℤ, pos}
 use lib.ListN.{length, getD, set}

@@ -1,14 +1,11 @@
 -- `number_set::make::rising_fragment` meets its contract: the first i elements rise.
 -- Assumes nothing.
-use Rattle.number_set.proofs.MakeLaws.{rising-more, rising-stops, rising-short, rising-ends}
-use Rattle.sequence_number.proofs.KindLaws.{fragment-lawful}
-use Rattle.number_set.specs.Make.{risingTo}
+use Rattle.number_set.proofs.MakeLaws.{risingTo, rising-more, rising-short, rising-fails, rising-ends}
 use Rattle.sequence_number.specs.Kind.{fragment}
 use borrow.Author.Tests.{lt-ltb, le-ltb}
-use lib.ListN.{length}
 use native.Mathlib.Omega.{arith}
 use mathlib.Core.Bool.{true}
-use mathlib.Core.Path.{_≡_, refl, sym}
+use mathlib.Core.Path.{_≡_, refl}
 use Prim.Native.Nat.{_-_, _≤_}
 use borrow.Author.Needs.{needs}
 use Rattle.number_set.proofs.make.rising_fragment.Statement.{statement}
@@ -21,7 +18,7 @@ abbrev μ-loop : tie.MeasureT-loop
 μ-loop list n i₀ i = n - i
 
 returns : tie.Need-returns Inv-loop μ-loop
-returns c = rising-short fragment fragment-lawful (c .before .args .list .now) (c .if1 .taken)
+returns c = rising-short fragment (c .before .args .list .now) (c .if1 .taken)
 
 sub-n : tie.Need-sub-n Inv-loop μ-loop
 sub-n c = search needs
@@ -56,10 +53,10 @@ loop-again c = (omega arith, rising-more (fragment .below) (fragment .nought) (c
 returns-2 : tie.Need-returns-2 Inv-loop μ-loop
 returns-2 c =
     let xs = c .before .before .before .before .before .before .args .list .now in
-    sym (rising-stops (fragment .below) (fragment .nought) xs (c .before .before .before .before .loop .i) (length xs - 1) (c .before .before .before .loop-test .taken) (le-ltb _ _ (c .if2 .left)))
+    rising-fails fragment xs (c .before .before .before .before .loop .i) (c .before .before .before .loop-test .taken) (le-ltb _ _ (c .if2 .left))
 
 returns-3 : tie.Need-returns-3 Inv-loop μ-loop
-returns-3 c = rising-ends fragment fragment-lawful (c .before .before .before .args .list .now) (c .before .loop .i) (omega arith) (c .before .loop .inv .1)
+returns-3 c = rising-ends fragment (c .before .before .before .args .list .now) (c .before .loop .i) (omega arith) (c .before .loop .inv .1)
 
 pub rising-fragment-spec : {M : Type 1} → statement M
 rising-fragment-spec =

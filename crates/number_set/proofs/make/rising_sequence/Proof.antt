@@ -1,17 +1,14 @@
 -- `number_set::make::rising_sequence` meets its contract: the first i elements rise.
 -- Assumes nothing.
-use Rattle.number_set.proofs.MakeLaws.{rising-more, rising-stops, rising-short, rising-ends}
-use Rattle.sequence_number.proofs.KindLaws.{sequence-lawful}
-use Rattle.number_set.specs.Make.{risingTo}
+use Rattle.number_set.proofs.MakeLaws.{risingTo, rising-more, rising-short, rising-fails, rising-ends}
 use Rattle.sequence_number.specs.Kind.{sequence}
 use Rattle.sequence_number.proofs.SignedLaws.{test-back}
 use lib.IntN.{pos}
 use lib.ListN.{getD}
 use Prim.Native.Nat.{_+_}
-use lib.ListN.{length}
 use native.Mathlib.Omega.{arith}
 use mathlib.Core.Bool.{true}
-use mathlib.Core.Path.{_≡_, refl, sym}
+use mathlib.Core.Path.{_≡_, refl}
 use Prim.Native.Nat.{_-_, _≤_}
 use borrow.Author.Needs.{needs}
 use Rattle.number_set.proofs.make.rising_sequence.Statement.{statement}
@@ -24,7 +21,7 @@ abbrev μ-loop : tie.MeasureT-loop
 μ-loop list n i₀ i = n - i
 
 returns : tie.Need-returns Inv-loop μ-loop
-returns c = rising-short sequence sequence-lawful (c .before .args .list .now) (c .if1 .taken)
+returns c = rising-short sequence (c .before .args .list .now) (c .if1 .taken)
 
 sub-n : tie.Need-sub-n Inv-loop μ-loop
 sub-n c = search needs
@@ -59,10 +56,10 @@ loop-again c = (omega arith, rising-more (sequence .below) (sequence .nought) (c
 returns-2 : tie.Need-returns-2 Inv-loop μ-loop
 returns-2 c =
     let xs = c .before .before .before .before .before .before .args .list .now in
-    sym (rising-stops (sequence .below) (sequence .nought) xs (c .before .before .before .before .loop .i) (length xs - 1) (c .before .before .before .loop-test .taken) (test-back (getD (c .before .before .before .before .before .before .args .list .now) (c .before .before .before .before .loop .i) (pos 0)) (getD (c .before .before .before .before .before .before .args .list .now) (c .before .before .before .before .loop .i + 1) (pos 0)) (c .before .before .a .given) (c .before .b .given) (c .if2 .left)))
+    rising-fails sequence xs (c .before .before .before .before .loop .i) (c .before .before .before .loop-test .taken) (test-back (getD (c .before .before .before .before .before .before .args .list .now) (c .before .before .before .before .loop .i) (pos 0)) (getD (c .before .before .before .before .before .before .args .list .now) (c .before .before .before .before .loop .i + 1) (pos 0)) (c .before .before .a .given) (c .before .b .given) (c .if2 .left))
 
 returns-3 : tie.Need-returns-3 Inv-loop μ-loop
-returns-3 c = rising-ends sequence sequence-lawful (c .before .before .before .args .list .now) (c .before .loop .i) (omega arith) (c .before .loop .inv .1)
+returns-3 c = rising-ends sequence (c .before .before .before .args .list .now) (c .before .loop .i) (omega arith) (c .before .loop .inv .1)
 
 pub rising-sequence-spec : {M : Type 1} → statement M
 rising-sequence-spec =

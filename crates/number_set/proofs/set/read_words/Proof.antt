@@ -2,7 +2,7 @@
 -- Assumes nothing.
 use Rattle.number_set.proofs.SetWireLaws.{words-more, words-read}
 use Rattle.number_set.specs.SetWire.{wordsFrom, readWords}
-use Rattle.number_set.specs.NumberSet.{noWords}
+use Rattle.number_set.specs.NumberSet.{zeroWords}
 use lib.Seq.{sets}
 use native.Mathlib.Omega.{arith}
 use mathlib.Core.Path.{_≡_, refl, ap, _∙_}
@@ -12,7 +12,7 @@ use Rattle.number_set.proofs.set.read_words.Statement.{statement}
 use Rattle.number_set.proofs.set.read_words.Tie as tie
 
 abbrev Inv-loop : tie.InvT-loop
-Inv-loop o s at n words₀ i₀ words i = (i ≤ n) × (words ≡ sets noWords 0 (wordsFrom o s at i))
+Inv-loop o s at n words₀ i₀ words i = (i ≤ n) × (words ≡ sets zeroWords 0 (wordsFrom o s at i))
 
 abbrev μ-loop : tie.MeasureT-loop
 μ-loop o s at n words₀ i₀ words i = n - i

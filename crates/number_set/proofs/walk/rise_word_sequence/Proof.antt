@@ -13,7 +13,7 @@ use mir.Val.{ofZ, toZ}
 use mir.Facts.{toZ-ofZ}
 use borrow.Author.Needs.{needs}
 use Rattle.sequence_number.specs.Kind.{sequence}
-use Rattle.number_set.specs.Bitmap.{wordPositions}
+use Rattle.number_set.specs.Inner.{wordPositions}
 use Rattle.number_set.specs.Walk.{anyPast}
 use Rattle.number_set.proofs.FitLaws.{fits-below}
 use Rattle.number_set.proofs.ClimbLaws.{Climbs, climbs-none, climbs-by, climbs-asks, climbs-more, climbs-past, climbs-left, climbs-rest, left-four, shift-more}

@@ -2,7 +2,8 @@
 -- Assumes nothing.
 use Rattle.number_set.proofs.MakeLaws.{none-below, spanned-small, make-falls, make-empty, make-low, make-span}
 use Rattle.sequence_number.proofs.KindLaws.{sequence-lawful}
-use Rattle.number_set.specs.Make.{rising, smaller, spanned, markedTo, sequenceSetMade}
+use Rattle.number_set.specs.Inner.{markedTo}
+use Rattle.number_set.specs.Make.{rising, smaller, spanned, sequenceSetMade}
 use Rattle.sequence_number.specs.Kind.{sequence}
 use Rattle.sequence_number.specs.Outcome.{done}
 use Rattle.number_set.specs.NumberSet.{emptyAt}
