@@ -21,7 +21,7 @@ use Rattle.fragment_assembler.specs.SetUp.{empty}
 use Rattle.assembly_record.specs.State.{Place, free, withPlaces}
 use Rattle.assembly_record.specs.Table.{lower, has, inAssembly}
 use Rattle.fragment_assembler.specs.View.{shown}
-use Rattle.no_starvation.specs.Starve.{Moment, moment, said, returns, arrives, after, cleans, Accepted, Cut, Run, runOf, isBrought, Bounded, Chain}
+use Rattle.no_starvation.specs.Starve.{Moment, moment, said, returns, arrives, after, cleans, Accepted, Cut, runOf, isBrought, Bounded, Chain}
 use Rattle.no_starvation.specs.Starve as starve
 
 abbrev block : List ℕ
