@@ -87,7 +87,8 @@ uint32_t drucenal_write_fragment_number_set(bool big, uint32_t base, uint32_t co
                                             uint8_t *out, size_t room, size_t *wrote);
 
 /* From a base and a strictly rising list, as far as 256 numbers reach; low: the base of the set made, which is the
- * smaller of base and the list's first number, or 1 where that is below 1 (the set is empty then). Refusal 15. */
+ * smaller of base and the list's first number, or 1 where that is below 1 (the set is empty then); of an empty list
+ * the base itself, whatever it is. Refusal 15. */
 uint32_t drucenal_make_sequence_number_set(int64_t base, const int64_t *list, size_t length, int64_t *low,
                                            uint32_t *count, uint32_t words[8]);
 uint32_t drucenal_make_fragment_number_set(uint32_t base, const uint32_t *list, size_t length, uint32_t *low,

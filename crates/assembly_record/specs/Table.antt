@@ -15,7 +15,7 @@ find n (p ∷ ps) = cond (eqb (p .number) n) 0 (suc (find n ps))
 unfoldable pub has : List Place → ℕ → Bool
 has ps n = ltb (find n ps) (length ps)
 
--- "A query says whether a number is in assembly": 0 stands for what no sample is numbered
+-- "A query says whether a number is in assembly": of one number (`count` says of how many). 0 stands for a number that row 4 refuses: no sample has it
 abbrev pub inAssembly : List Place → ℕ → Bool
 inAssembly ps n = cond (eqb n 0) false (has ps n)
 
@@ -27,7 +27,7 @@ howMany test (p ∷ ps) = cond (test p) (suc (howMany test ps)) (howMany test ps
 abbrev pub isTaken : Place → Bool
 isTaken p = ltb 0 (p .number)
 
--- how many numbers are in assembly
+-- how many numbers are in assembly: what the call `in_assembly` answers
 abbrev pub count : List Place → ℕ
 count ps = howMany isTaken ps
 

@@ -2,10 +2,13 @@
 use Prim.Native.Nat.{ℕ, _+_, _*_, _-_, _/_, _≤_, _<_}
 use native.Mathlib.Omega.{arith}
 use native.Mathlib.Nat.{le-div-iff-mul-le, div-lt-iff-lt-mul}
-use mathlib.Core.Path.{_≡_}
+use mathlib.Core.Path.{_≡_, refl, sym, ap}
 use mathlib.Core.List.{List}
-use lib.ListN.{length, take, drop}
-use borrow.Author.Tests.{le-leb, lt-leb}
+use lib.ListN.{length, take, drop, length-drop}
+use lib.Seq.{length-take-le}
+use lib.Dec.{leb}
+use borrow.Author.Tests.{le-leb, lt-leb, leb-true}
+use Rattle.sequence_number.proofs.Split.{split}
 use Rattle.assembly_record.specs.State.{Assembler}
 use Rattle.fragment_assembler.specs.View.{shown}
 
@@ -29,3 +32,15 @@ module _ (a : Assembler) (area : List ℕ) (i n : ℕ) where
   shown-part h k =
       let e : (i * a .room + n) - i * a .room ≡ n = omega arith in
       rw (le-leb (i * a .room + n) (length area) (omega arith), e)
+
+  -- the bytes shown are the first ones from the place's start on, as many as are shown
+  pub shown-front : shown a area i n ≡ take (length (shown a area i n)) (drop (i * a .room) area)
+  unfolding shown
+  shown-front =
+      split (leb (i * a .room + n) (length area))
+      (λ e.
+      let le : i * a .room + n ≤ length area = leb-true _ _ e in
+      rw e
+      (ap (λ (k : ℕ). take k (drop (i * a .room) area))
+      (sym (length-take-le n (drop (i * a .room) area) (omega (arith, length-drop (i * a .room) area))))))
+      (λ e. rw e refl)

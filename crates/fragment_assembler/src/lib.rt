@@ -114,7 +114,7 @@ pub fn set_up(t: &mut [u64], fragment_size: u16, reliable: bool, place_size: u32
     Start::Ready
 }
 
-// A fragment arrives: `count` fragments from `start` of the sample `number`, which has `data_size` bytes. The time is stored as it is.
+// A fragment arrives: `count` fragments from `start` of the sample `number`. `data_size` is looked at only where it opens the sample; the time is stored as it is.
 pub fn new_datafrag(
     t: &mut [u64],
     area: &mut [u8],
@@ -164,7 +164,7 @@ pub fn garbage_collect_before(t: &mut [u64], expire_before: u64, out: &mut [i64]
     Cleaned::Dropped(n)
 }
 
-// Whether a number is in assembly.
+// Whether a number is in assembly: the definition `inAssembly`.
 pub fn is_partially_received(t: &[u64], number: i64) -> bool
     requires { ⌜ Good (now t) ⌝ }
     ensures { λ r. ⌜ r ≡ inAssembly (stateOf (now (t .entry)) .places) (numberOf number) ⌝ }
@@ -212,7 +212,7 @@ pub fn missing_frags_for(t: &[u64], number: i64, out: &mut [u32]) -> Listing
     Listing::Listed(k)
 }
 
-// How many numbers are in assembly.
+// How many numbers are in assembly: the definition `count`, not `inAssembly`, which asks of one number.
 pub fn in_assembly(t: &[u64]) -> usize
     requires { ⌜ Good (now t) ⌝ }
     ensures { λ r. ⌜ r ≡ count (stateOf (now (t .entry)) .places) ⌝ }

@@ -19,7 +19,7 @@ ghost use Rattle.assembly_record.specs.Rules.{Good};
 // The most fragments of a sample.
 const MOST_FRAGMENTS: u64 = 256;
 
-// 10, 11 and 12, on a sample of d bytes: the last fragment of the run starts before its end.
+// 10, 11 and 12, on a sample of d bytes. 12 is asked without F: the run's last fragment has to start before the sample's end.
 fn refuse_run(d: u64, f: u64, start: u32, count: u16) -> u8
     requires { ⌜ (0 < f) × ((f < 65536) × (d < 4294967296)) ⌝ }
     ensures { λ r. ⌜ r ≡ runRefusal (fragments d f) start count ⌝ }

@@ -35,7 +35,7 @@ known-values =
       P6 = refl;
       P7 = (refl, refl);
       P8 = λ reliable area e. rw e (refl, refl, refl, refl);
-      P9 = refl;
+      P9 = (refl, refl);
       P10 = p10;
-      P11 = (refl, inl refl);
+      P11 = λ time. (refl, inl refl);
     }

@@ -32,10 +32,10 @@ abbrev pub upFrom : ℕ → ℕ → List ℕ
 upFrom n zero = []
 upFrom n (suc k) = n ∷ upFrom (suc n) k
 
--- and those received, the lowest first
-abbrev pub receivedEach : ℕ → ℕ → State → State
-receivedEach n zero s = s
-receivedEach n (suc k) s = receivedEach (suc n) k (received (pos n) 0 s .state)
+-- and those received, the lowest first, each at its time
+abbrev pub receivedEach : (ℕ → ℕ) → ℕ → ℕ → State → State
+receivedEach time n zero s = s
+receivedEach time n (suc k) s = receivedEach time (suc n) k (received (pos n) (time n) s .state)
 
 abbrev pub numbers : State → List ℕ
 numbers s = map (λ (e : Entry). e .number) (s .tracked)
@@ -60,9 +60,10 @@ pub record KnownValues : Type 0 where
   pub P8 : (reliable : Bool) (area : List ℕ) → length area ≡ 129 * 2048
       → (fragments 1024 4 ≡ 256) × (refusal (empty 4 reliable 2048) (length area) (opening 1024) ≡ 0)
       × (fragment (empty 4 reliable 2048) area (opening 1025) .answer ≡ refused 9) × (fragment (empty 4 reliable 2048) area (opening 3) .answer ≡ refused 7)
-  -- fresh, range 10 until 12, then 0 until 10: base 12. The second call is an "up to"
-  pub P9 : upTo (pos 10) (irrelevantRange (pos 10) (pos 12) freshState .state) .state .base ≡ 12
+  -- fresh, range 10 until 12, then 0 until 10: base 12. "Up to s" is the range 0 until s: the same by that call
+  pub P9 : (irrelevantRange (pos 0) (pos 10) (irrelevantRange (pos 10) (pos 12) freshState .state) .state .base ≡ 12)
+      × (upTo (pos 10) (irrelevantRange (pos 10) (pos 12) freshState .state) .state .base ≡ 12)
   -- fresh, range 2 until 1002: base 746, tracked 746 to 1001
   pub P10 : (irrelevantRange (pos 2) (pos 1002) freshState .state .base ≡ 746) × (numbers (irrelevantRange (pos 2) (pos 1002) freshState .state) ≡ upFrom 746 256)
-  -- fresh, received 2 to 258: base 3, 3 still tracked
-  pub P11 : (receivedEach 2 257 freshState .base ≡ 3) × Tracked 3 (receivedEach 2 257 freshState .tracked)
+  -- fresh, received 2 to 258: base 3, 3 still tracked; at any times
+  pub P11 : (time : ℕ → ℕ) → (receivedEach time 2 257 freshState .base ≡ 3) × Tracked 3 (receivedEach time 2 257 freshState .tracked)

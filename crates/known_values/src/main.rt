@@ -1,4 +1,4 @@
-// Document 01's "Known values at the edges" that are not in the table, and its "Easy errors", run and written out.
+// Document 01's "Known values at the edges" that are not in the table, and those of its "Easy errors" that the table does not show, run and written out.
 use fragment_assembler::Answer;
 use fragment_assembler::Start;
 use number_set::set::SequenceNumberSet;
@@ -66,7 +66,6 @@ fn told(a: Answer) {
             number(n);
         }
     }
-    say(b"\n");
 }
 
 // The numbers 1 to 128 opened, each with the first of its two fragments.
@@ -81,7 +80,7 @@ fn open_all(t: &mut [u64], area: &mut [u8])
     }
 }
 
-// A 129th beside them, with so many of its two fragments.
+// A 129th beside them, with so many of its two fragments: the answer, and how many are in assembly after it.
 fn one_more(t: &mut [u64], area: &mut [u8], reliable: bool, fragments: u16)
     requires { ⌜ length (now t) ≡ 906 ⌝ }
 {
@@ -91,6 +90,9 @@ fn one_more(t: &mut [u64], area: &mut [u8], reliable: bool, fragments: u16)
     open_all(t, area);
     let a = fragment_assembler::new_datafrag(t, area, 0, 129, 4, 8, 1, fragments, b"abcdefgh");
     told(a);
+    say(b"; in assembly: ");
+    number(fragment_assembler::in_assembly(t) as u64);
+    say(b"\n");
 }
 
 // The bytes that the view shows.
@@ -153,6 +155,8 @@ fn main() {
     one_more(&mut record, &mut area, false, 1);
     say(b"reliable, a whole 129th: ");
     one_more(&mut record, &mut area, true, 2);
+    say(b"best effort, a whole 129th: ");
+    one_more(&mut record, &mut area, false, 2);
     reopened(&mut record, &mut area);
     let mut proxy = [0u64; 775];
     let mut list = [0i64; 4];

@@ -3,14 +3,14 @@ use Prim.Native.Nat.{ℕ, _+_, _*_}
 use native.Mathlib.Omega.{arith}
 use mathlib.Core.Path.{_≡_, sym, ap, subst, _∙_}
 use mathlib.Core.Bool.{Bool, true, false, cond}
-use mathlib.Core.Logic.{inl, inr, ⊎-elim}
+use mathlib.Core.Logic.{_⊎_, inl, inr, ⊎-elim}
 use mathlib.Core.List.{List, [], _∷_}
 use lib.ListN.{length, take, drop}
 use lib.IntN.{ℤ}
 use lib.Dec.{leb}
 use Rattle.sequence_number.proofs.Split.{split-eq}
 use Rattle.fragment_assembler.proofs.CallLaws.{fragment-refused, fragment-accepted}
-use Rattle.no_starvation.proofs.StarveLaws.{not-starved}
+use Rattle.no_starvation.proofs.StarveLaws.{not-starved, others-silent}
 use Rattle.fragment_assembler.specs.Call.{After, fateOf, accepted, fragment}
 use Rattle.fragment_assembler.specs.Clean.{Cleaning}
 use Rattle.fragment_assembler.specs.Promise.{Does, Cleans}
@@ -112,3 +112,13 @@ calls-not-starved {N = N} {B = B} {w = w} {area = area} {rs = rs} h c r w′ are
                 ∙ b .2,
           );
     }
+
+-- "no call before does", of every other call: one under another number, or refused, does not return N. A cleaning, and a call that only looks, return
+-- nothing: their answers have no such case.
+pub calls-others-silent : (N : ℕ) {w area : List ℕ} → Good w → (c : Call) (r : Answer) (w′ area′ : List ℕ) → Does w area c r w′ area′
+    → (c .number ≡ N → ⊥) ⊎ (isRefused (fateOf r) ≡ true) → returns N (fateOf r) ≡ false
+calls-others-silent N {w = w} {area = area} g c r w′ area′ d o =
+    let s = does-said w area c r w′ area′ d in
+    ap (returns N) (sym s)
+    ∙ others-silent N 0 (moment (stateOf w) area) (arrives c) (g .ok)
+    (⊎-elim (λ n. inl n) (λ n. inr (refused-shows (stateOf w) area c (ap isRefused s ∙ n))) o)

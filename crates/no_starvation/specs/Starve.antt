@@ -45,7 +45,7 @@ after m (arrives c) = moment (fragment (m .state) (m .area) c .state) (fragment 
 after m (cleans cutoff out) = moment (clean (m .state) cutoff out .state) (m .area)
 after m looks = m
 
--- the answer: only a fragment call says what happened to a number here
+-- what a call says of a returned number: only a fragment call returns one
 abbrev pub said : Moment → Event → Outcome Fate
 said m (arrives c) = fragment (m .state) (m .area) c .answer
 said m (cleans cutoff out) = done kept

@@ -3,11 +3,12 @@ use fragment_assembler::Answer;
 use fragment_assembler::Cleaned;
 use fragment_assembler::Listing;
 use fragment_assembler::Start;
+ghost use Prim.Native.Nat.{_*_};
 ghost use mathlib.Core.Path.{_≡_};
 ghost use lib.ListN as lists;
 ghost use Rattle.sequence_number.specs.Number.{numberOf};
 ghost use Rattle.fragment_assembler.specs.Refusal.{callOf};
-ghost use Rattle.assembly_record.specs.Table.{inAssembly};
+ghost use Rattle.assembly_record.specs.Table.{inAssembly, count};
 ghost use Rattle.fragment_assembler.specs.View.{shown};
 ghost use Rattle.assembly_record.specs.Words.{stateOf};
 ghost use Rattle.assembly_record.specs.Rules.{Good};
@@ -96,6 +97,7 @@ pub extern "C" fn drucenal_assembler_view(
 ) -> usize
     requires { ⌜ Good (now words) ⌝ }
     ensures { λ r. ⌜ r ≡ lists.length (shown (stateOf (now (words .entry))) (now (area .entry)) place length) ⌝ }
+    ensures { λ r. ⌜ shown (stateOf (now (words .entry))) (now (area .entry)) place length ≡ lists.take r (lists.drop (place * stateOf (now (words .entry)) .room) (now (area .entry))) ⌝ }
 {
     fragment_assembler::view(words, area, place, length).len()
 }
@@ -144,4 +146,12 @@ pub extern "C" fn drucenal_assembler_is_partially_received(words: &[u64], number
     ensures { λ r. ⌜ r ≡ inAssembly (stateOf (now (words .entry)) .places) (numberOf number) ⌝ }
 {
     fragment_assembler::is_partially_received(words, number)
+}
+
+#[no_mangle]
+pub extern "C" fn drucenal_assembler_in_assembly(words: &[u64]) -> usize
+    requires { ⌜ Good (now words) ⌝ }
+    ensures { λ r. ⌜ r ≡ count (stateOf (now (words .entry)) .places) ⌝ }
+{
+    fragment_assembler::in_assembly(words)
 }

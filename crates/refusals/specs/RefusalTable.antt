@@ -121,7 +121,7 @@ pub record Refuses (v : Verdict) (rows : List Row) (Untouched : Type 0) : Type 0
 abbrev pub shorter : {A B : Type 0} → List A → List B → Row
 shorter out answer = row 3 (length out < length answer)
 
--- ==== Numbers and sets (crate sequence_number), over the kind of number
+-- ==== Numbers and sets (crates sequence_number and number_set), over the kind of number
 
 -- "Every refusal returns its number alone": an answer that has room for a set is the one for that number, with the empty set at 0
 abbrev pub Alone : {A R : Type 0} → (Outcome A → R) → (R → ℕ) → R → Type 0
@@ -198,7 +198,7 @@ abbrev pub MakeSet : (k : Kind) {R : Type 0} → (Outcome (NumberSet (k .Number)
 MakeSet k {R} answer refusal = (base : k .Number) (xs : List (k .Number)) (r : R) → r ≡ answer (makeSet k base xs)
     → Exactly (numbered (refusal r)) (makeSetRows k xs) × Alone answer refusal r
 
--- `number_of` and `natural` (module number) have no refusal: a number that row 4 names is 0 there.
+-- `number_of` (module number) gives 0 for a number that row 4 names, `natural` 0 for a negative one; neither has a refusal, nor has `of_bits`.
 
 -- ==== The writer proxy (crate writer_proxy); `SFits w64 n` says that n is an i64
 

@@ -1,4 +1,5 @@
--- `known_values::one_more` meets its contract: set-up leaves a record by the rules, as long as the words that were lent.
+-- `known_values::one_more` meets its contract: set-up leaves a record by the rules, as long as the words that were lent, and each
+-- call keeps them.
 -- Assumes nothing.
 use Rattle.fragment_assembler.specs.SetUp.{startedOf}
 use Rattle.assembly_record.specs.Rules.{Good}
@@ -38,6 +39,24 @@ new-datafrag-requires c κs = search needs
 told-requires : tie.Need-told-requires
 told-requires c κs = search needs
 
+slice-aggregate-say : tie.Need-slice-aggregate-say
+slice-aggregate-say c = search needs
+
+say-requires : tie.Need-say-requires
+say-requires c κs = search needs
+
+in-assembly-requires : tie.Need-in-assembly-requires
+in-assembly-requires c κs = search needs
+
+number-requires : tie.Need-number-requires
+number-requires c κs = search needs
+
+slice-aggregate-say-2 : tie.Need-slice-aggregate-say-2
+slice-aggregate-say-2 c = search needs
+
+say-requires-2 : tie.Need-say-requires-2
+say-requires-2 c κs = search needs
+
 same-length-2 : tie.Need-same-length-2
 same-length-2 c = search needs
 
@@ -60,6 +79,12 @@ one-more-spec =
     slice-aggregate-new-datafrag
     new-datafrag-requires
     told-requires
+    slice-aggregate-say
+    say-requires
+    in-assembly-requires
+    number-requires
+    slice-aggregate-say-2
+    say-requires-2
     same-length-2
     same-length-3
     returns-2)
