@@ -1,23 +1,24 @@
 -- Laws of the two walks of one word, over the kind of number: f i is the number that bit i stands for. Assumes nothing.
-use Prim.Native.Nat.{ℕ, zero, suc, _+_, _*_, _/_, _%_, _^_, _-_, _<_, _≤_}
-use mathlib.Core.Path.{_≡_, refl, ap, _∙_, sym, subst}
+use Prim.Native.Nat.{ℕ, suc, _+_, _*_, _/_, _%_, _^_, _-_, _<_, _≤_}
+use mathlib.Core.Path.{_≡_, refl, ap, _∙_, sym}
 use mathlib.Core.Bool.{Bool, true, false, not, _||_}
-use mathlib.Core.List.{List, [], _∷_, _++_, map, reverse, append-nil}
+use mathlib.Core.List.{List, [], _∷_, _++_, map, reverse, append-nil, map-append, map-map}
 use native.Mathlib.Omega.{arith}
 use native.Mathlib.Decide.{decLt}
-use native.Mathlib.Nat.{mul-assoc, mul-mod-left, mod-eq-of-lt, div-eq-of-lt}
+use native.Mathlib.Nat.{add-zero, mul-assoc, mul-mod-left, mod-eq-of-lt, div-eq-of-lt}
 use lib.ListN.{length, length-append, length-map, length-set, set}
 use lib.Seq.{sets, set-set, append-snoc}
 use lib.Dec.{eqb}
 use lib.Pow.{pow-add, shr-shr}
-use borrow.Author.Tests.{eq-eqb, ne-eqb}
+use borrow.Author.Tests.{eq-eqb, ne-eqb, not-false}
 use Rattle.number_set.specs.Bitmap.{hasBit, positions}
 use Rattle.number_set.specs.Inner.{wordPositions}
 use Rattle.number_set.specs.Walk.{anyPast}
+use Rattle.sequence_number.proofs.Split.{neither}
 use Rattle.sequence_number.proofs.RunLaws.{sets-append}
 use Rattle.number_set.proofs.PositionLaws.{positions-yes, positions-no, length-more}
-use Rattle.number_set.proofs.WordBitLaws.{map-append, has-one, shifted-bit, positions-shifted, none-left, none-in-zero, some-in}
-use Rattle.number_set.proofs.WalkLaws.{past-append, past-map, map-map, or-right, or-left, not-false-true, member-fits, Falling, falling-none, falling-yes, falling-no, falling-room, falling-long, falling-done}
+use Rattle.number_set.proofs.WordBitLaws.{has-one, shifted-bit, positions-shifted, none-left, none-in-zero, some-in}
+use Rattle.number_set.proofs.WalkLaws.{past-append, past-map, member-fits, Falling, falling-none, falling-yes, falling-no, falling-room, falling-long, falling-done}
 
 -- the first j bits are walked, and w is what is left. A place that a member is to take may hold any number
 pub record Climbs {A : Type 0} (f : ℕ → A) (from word : ℕ) (out₀ : List A) (place : ℕ) (out : List A) (n w i : ℕ) : Type 0 where
@@ -73,23 +74,20 @@ module _ {A : Type 0} (f : ℕ → A) (from word : ℕ) (out₀ : List A) (place
 
     -- a member still to come fits
     pub climbs-fits : (fits : ℕ → Bool) → 0 < w → anyPast fits (wordPositions word) ≡ false → (k : ℕ) × (fits (l .j + k) ≡ true)
-    climbs-fits fits p e = first (wordPositions w) (some-in w p small) (or-right (anyPast fits (positions (word ∷ []) (l .j))) _ (sym split ∙ e))
+    climbs-fits fits p e = first (wordPositions w) (some-in w p small) (neither (anyPast fits (positions (word ∷ []) (l .j))) _ (sym split ∙ e) .1)
       where
         split : anyPast fits (wordPositions word) ≡ (anyPast fits (positions (word ∷ []) (l .j)) || anyPast fits (map (λ (k : ℕ). l .j + k) (wordPositions w)))
         split = ap (anyPast fits) parts ∙ past-append fits (positions (word ∷ []) (l .j)) (map (λ (k : ℕ). l .j + k) (wordPositions w))
 
         first : (ps : List ℕ) → 0 < length ps → anyPast fits (map (λ (k : ℕ). l .j + k) ps) ≡ false → (k : ℕ) × (fits (l .j + k) ≡ true)
         first [] h z = absurd (omega arith)
-        first (k ∷ ps) h z = (k, not-false-true (fits (l .j + k)) (or-left (not (fits (l .j + k))) (anyPast fits (map (λ (q : ℕ). l .j + q) ps)) z))
+        first (k ∷ ps) h z = (k, not-false (fits (l .j + k)) (neither (not (fits (l .j + k))) (anyPast fits (map (λ (q : ℕ). l .j + q) ps)) z .0))
 
     same-bit : l .j < 32 → hasBit (word ∷ []) (l .j) ≡ eqb (w / 2147483648 % 2) 1
     same-bit h =
-        ap (hasBit (word ∷ [])) (sym (add-zero′ (l .j)))
+        ap (hasBit (word ∷ [])) (sym (add-zero (l .j)))
         ∙ shifted-bit word (l .j) 0 (omega arith)
         ∙ ap (λ (x : ℕ). hasBit (x ∷ []) 0) (sym (l .rest))
-      where
-        add-zero′ : (k : ℕ) → k + 0 ≡ k
-        add-zero′ k = omega arith
 
     next : w * 2 % 4294967296 ≡ word * 2 ^ (l .j + 1) % 4294967296
     next =
@@ -165,7 +163,7 @@ module _ {A : Type 0} (f : ℕ → A) (from word : ℕ) (out₀ : List A) (place
     climbs-past fits e =
         let g : ℕ → Bool = λ k. fits (from + k) in
         let q : List ℕ = map (λ (k : ℕ). l .j + k) (wordPositions w) in
-        let b = or-right (anyPast g (positions (word ∷ []) (l .j))) (anyPast g q) (sym (ap (anyPast g) parts ∙ past-append g (positions (word ∷ []) (l .j)) q) ∙ e) in
+        let b = neither (anyPast g (positions (word ∷ []) (l .j))) (anyPast g q) (sym (ap (anyPast g) parts ∙ past-append g (positions (word ∷ []) (l .j)) q) ∙ e) .1 in
         past-same (wordPositions w) ∙ sym (past-map g (λ (k : ℕ). l .j + k) (wordPositions w)) ∙ b
       where
         past-same : (ps : List ℕ) → anyPast (λ (k : ℕ). fits (i + k)) ps ≡ anyPast (λ (k : ℕ). fits (from + (l .j + k))) ps

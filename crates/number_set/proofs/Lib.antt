@@ -5,8 +5,8 @@ pub mod SetWireLaws
 pub mod WordBitLaws
 pub mod WalkLaws
 pub mod ClimbLaws
-pub mod FitLaws
 pub mod MakeLaws
+pub mod SetAnswers
 pub mod MemberLaws
 pub mod RoundTrip
 pub mod Determined

@@ -10,7 +10,6 @@ use native.Mathlib.Numerals.{add-one}
 use native.Mathlib.Nat.{add-zero, add-suc}
 use lib.ListN.{length, getD, drop}
 use lib.Seq.{drop-cons, drop-length}
-use lib.Dec.{T}
 use borrow.Author.Tests.{lt-ltb, le-ltb, le-leb, lt-leb}
 use Rattle.sequence_number.specs.Outcome.{Outcome, refused, done}
 use Rattle.sequence_number.specs.Kind.{Kind}
@@ -18,16 +17,8 @@ use Rattle.number_set.specs.Bitmap.{setBit}
 use Rattle.number_set.specs.NumberSet.{NumberSet, zeroWords, emptyAt}
 use Rattle.number_set.specs.Inner.{markedTo}
 use Rattle.number_set.specs.Make.{rising, smaller, spanned, setBits, setFrom, setOver, makeSet}
-use Rattle.sequence_number.proofs.Split.{split, split-lt}
+use Rattle.sequence_number.proofs.Split.{split, split-lt, both}
 use Rattle.sequence_number.proofs.KindLaws.{Lawful}
-
-and-left : (a b : Bool) → (a && b) ≡ true → a ≡ true
-and-left true b e = refl
-and-left false b e = absurd (subst T (sym e) tt)
-
-and-right : (a b : Bool) → (a && b) ≡ true → b ≡ true
-and-right true b e = e
-and-right false b e = absurd (subst T (sym e) tt)
 
 -- ---- rising lists
 
@@ -86,7 +77,7 @@ module _ (k : Kind) (law : Lawful k) where
       let e : j ≡ 0 = omega arith in
       subst (λ (i : ℕ). law .rank (getD xs 0 (k .nought)) ≤ law .rank (getD xs i (k .nought))) (sym e) (omega arith)
   first-least xs (suc n) r j h =
-      go (first-least xs n (and-left (risingTo (k .below) (k .nought) xs n) (k .below (getD xs n (k .nought)) (getD xs (suc n) (k .nought))) r)) (decLt n j)
+      go (first-least xs n (both (risingTo (k .below) (k .nought) xs n) (k .below (getD xs n (k .nought)) (getD xs (suc n) (k .nought))) r .0)) (decLt n j)
     where
       go : ((i : ℕ) → i ≤ n → law .rank (getD xs 0 (k .nought)) ≤ law .rank (getD xs i (k .nought))) → Dec (n < j)
           → law .rank (getD xs 0 (k .nought)) ≤ law .rank (getD xs j (k .nought))
@@ -95,7 +86,7 @@ module _ (k : Kind) (law : Lawful k) where
           let e : j ≡ suc n = omega arith in
           let a = before n (omega arith) in
           let b = law .rank-below (getD xs n (k .nought)) (getD xs (suc n) (k .nought))
-          (and-right (risingTo (k .below) (k .nought) xs n) (k .below (getD xs n (k .nought)) (getD xs (suc n) (k .nought))) r) in
+          (both (risingTo (k .below) (k .nought) xs n) (k .below (getD xs n (k .nought)) (getD xs (suc n) (k .nought))) r .1) in
           subst (λ (i : ℕ). law .rank (getD xs 0 (k .nought)) ≤ law .rank (getD xs i (k .nought))) (sym e) (omega arith)
 
   smaller-least : (base x : k .Number) → law .rank (smaller k base x) ≤ law .rank x

@@ -1,17 +1,16 @@
 -- Laws of `specs/SetWire.antt`, over the kind of number: each turn and each answer of the code. Assumes nothing.
-use Prim.Native.Nat.{ℕ, zero, suc, _+_, _*_, _-_, _<_, _≤_}
+use Prim.Native.Nat.{ℕ, zero, suc, _+_, _*_, _<_, _≤_}
 use mathlib.Core.Path.{_≡_, refl, ap, _∙_, sym, subst}
 use mathlib.Core.Bool.{Bool, true, false, cond}
 use lib.Dec.{ltb}
 use mathlib.Core.List.{List, [], _∷_, _++_}
 use native.Mathlib.Omega.{arith}
 use native.Mathlib.Decide.{decLt}
-use native.Mathlib.Numerals.{add-one, unary-clauses}
-use lib.ListN.{length, length-append, getD, drop, set, replicate}
+use native.Mathlib.Numerals.{add-one}
+use lib.ListN.{length, length-append, getD, drop, set}
 use lib.Seq.{sets}
 use borrow.Author.Tests.{lt-ltb, le-ltb}
 use Rattle.sequence_number.specs.Outcome.{Outcome, refused, done, found, left}
-use Rattle.sequence_number.specs.Lent.{over}
 use Rattle.sequence_number.specs.Word.{wordAt, wordBytes}
 use Rattle.sequence_number.specs.Kind.{Kind}
 use Rattle.sequence_number.specs.NumberWire.{wrote}
@@ -23,7 +22,7 @@ use Rattle.number_set.specs.declared.set.BitCount.{BitCount}
 use Rattle.number_set.specs.declared.set.BitCount.the-variants as bit-count
 use Rattle.sequence_number.specs.declared.wire.Written.{Written}
 use Rattle.sequence_number.specs.declared.wire.Written.the-variants.{Refused, Wrote}
-use Rattle.sequence_number.proofs.RunLaws.{sets-sets, set-sets, sets-over}
+use Rattle.sequence_number.proofs.RunLaws.{sets-sets, set-sets, sets-over, drop-replicate}
 use Rattle.sequence_number.proofs.WordLaws.{length-bytes}
 use Rattle.sequence_number.proofs.KindLaws.{Lawful}
 
@@ -44,17 +43,12 @@ words-more o s at i l₀ l v p e =
     ∙ ap (λ (k : ℕ). sets l₀ 0 (wordsFrom o s at k)) (sym (add-one i))
 
 -- the words that were read, over zeros
-drop-zeros : (n m : ℕ) → drop {A = ℕ} n (replicate m 0) ≡ replicate (m - n) 0
-drop-zeros zero m = simp unary-clauses
-drop-zeros (suc n) zero = let e : 0 - suc n ≡ 0 = omega arith in rw e
-drop-zeros (suc n) (suc m) = simp unary-clauses (drop-zeros n m)
-
 pub words-read : (o : ByteOrder) (s : List ℕ) (at n : ℕ) (l : List ℕ) → n ≤ 8 → l ≡ sets zeroWords 0 (wordsFrom o s at n) → l ≡ readWords o s at n
 words-read o s at n l h e =
     let k = length-words o s at n in
     e ∙ sets-over (wordsFrom o s at n) zeroWords (omega arith)
     ∙ ap (λ (i : ℕ). wordsFrom o s at n ++ drop i zeroWords) k
-    ∙ ap (λ (z : List ℕ). wordsFrom o s at n ++ z) (drop-zeros n 8)
+    ∙ ap (λ (z : List ℕ). wordsFrom o s at n ++ z) (drop-replicate n 8 0)
 
 -- the count, by the tests that the code makes
 module _ (size : ℕ) (o : ByteOrder) (s : List ℕ) where

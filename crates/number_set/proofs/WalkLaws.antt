@@ -2,13 +2,13 @@
 use Prim.Native.Nat.{ℕ, zero, suc, _+_, _*_, _-_, _<_, _≤_, min}
 use mathlib.Core.Path.{_≡_, refl, ap, _∙_, sym, subst}
 use mathlib.Core.Bool.{Bool, true, false, cond, not, _||_, or-true, false-or, or-assoc}
-use mathlib.Core.List.{List, [], _∷_, _++_, map, reverse, reverse-cons, reverse-append, append-nil, append-assoc}
+use mathlib.Core.List.{List, [], _∷_, _++_, map, reverse, reverse-cons, reverse-append, append-nil, append-assoc, map-append, map-map}
 use native.Mathlib.Omega.{arith}
 use native.Mathlib.Decide.{decLt}
 use lib.ListN.{length, length-append, length-map, length-reverse, getD, set}
 use lib.Seq.{sets, length-sets, append-snoc}
-use lib.Dec.{ltb, T}
-use borrow.Author.Tests.{lt-ltb, le-ltb}
+use lib.Dec.{ltb}
+use borrow.Author.Tests.{lt-ltb, le-ltb, not-false}
 use Rattle.sequence_number.specs.Outcome.{Outcome, refused, done}
 use Rattle.sequence_number.specs.Kind.{Kind}
 use Rattle.number_set.specs.Bitmap.{hasBit, onlyIf, positions}
@@ -17,27 +17,16 @@ use Rattle.number_set.specs.NumberSet.{NumberSet, members}
 use Rattle.number_set.specs.Walk.{walked, anyPast, inOrder, Walks}
 use Rattle.number_set.specs.declared.set.Walked.{Walked}
 use Rattle.number_set.specs.declared.set.Walked.the-variants.{Refused, Listed}
+use Rattle.sequence_number.proofs.Split.{neither}
 use Rattle.sequence_number.proofs.RunLaws.{sets-sets, sets-over}
 use Rattle.number_set.proofs.PositionLaws.{positions-yes, positions-no, position-split, length-positions, more}
-use Rattle.number_set.proofs.WordBitLaws.{map-append, FirstBits, positions-word}
+use Rattle.number_set.proofs.WordBitLaws.{FirstBits, positions-word}
 
 -- ---- members past their type
 
 pub past-append : (fits : ℕ → Bool) (xs ys : List ℕ) → anyPast fits (xs ++ ys) ≡ (anyPast fits xs || anyPast fits ys)
 past-append fits [] ys = sym (false-or (anyPast fits ys))
 past-append fits (x ∷ xs) ys = ap (λ (b : Bool). not (fits x) || b) (past-append fits xs ys) ∙ sym (or-assoc (not (fits x)) (anyPast fits xs) (anyPast fits ys))
-
-pub or-left : (a b : Bool) → (a || b) ≡ false → a ≡ false
-or-left false b e = refl
-or-left true b e = absurd (subst T (sym (sym e)) tt)
-
-pub or-right : (a b : Bool) → (a || b) ≡ false → b ≡ false
-or-right false b e = e
-or-right true b e = absurd (subst T e tt)
-
-pub not-false-true : (a : Bool) → not a ≡ false → a ≡ true
-not-false-true true e = refl
-not-false-true false e = absurd (subst T e tt)
 
 module _ (fits : ℕ → Bool) (ws : List ℕ) (i n : ℕ) (h : i < n) (e : hasBit ws i ≡ true) where
   place : anyPast fits (positions ws n) ≡ (anyPast fits (positions ws i) || (not (fits i) || false) || anyPast fits (position-split ws i n h e .0))
@@ -57,9 +46,9 @@ module _ (fits : ℕ → Bool) (ws : List ℕ) (i n : ℕ) (h : i < n) (e : hasB
   -- where none is past its type, a member fits
   pub member-fits : anyPast fits (positions ws n) ≡ false → fits i ≡ true
   member-fits f =
-      let a = or-left (anyPast fits (positions ws i) || (not (fits i) || false)) (anyPast fits (position-split ws i n h e .0)) (sym place ∙ f) in
-      let b = or-right (anyPast fits (positions ws i)) (not (fits i) || false) a in
-      not-false-true (fits i) (or-left (not (fits i)) false b)
+      let a = neither (anyPast fits (positions ws i) || (not (fits i) || false)) (anyPast fits (position-split ws i n h e .0)) (sym place ∙ f) .0 in
+      let b = neither (anyPast fits (positions ws i)) (not (fits i) || false) a .1 in
+      not-false (fits i) (neither (not (fits i)) false b .0)
 
 -- one more member that fits
 pub past-more : (fits : ℕ → Bool) (ws : List ℕ) (i : ℕ) → hasBit ws i ≡ true → fits i ≡ true → anyPast fits (positions ws i) ≡ false
@@ -82,10 +71,6 @@ past-agree f g ws a (suc n) h =
 
 -- ---- the loops that write the members: f i is the number that position i stands for
 
-pub map-map : {A : Type 0} (f : ℕ → A) (g : ℕ → ℕ) (xs : List ℕ) → map f (map g xs) ≡ map (λ (i : ℕ). f (g i)) xs
-map-map f g [] = refl
-map-map f g (x ∷ xs) = ap (λ (l : List _). f (g x) ∷ l) (map-map f g xs)
-
 pub past-map : (fits : ℕ → Bool) (g : ℕ → ℕ) (xs : List ℕ) → anyPast fits (map g xs) ≡ anyPast (λ (i : ℕ). fits (g i)) xs
 past-map fits g [] = refl
 past-map fits g (x ∷ xs) = ap (λ (b : Bool). not (fits (g x)) || b) (past-map fits g xs)
@@ -107,9 +92,9 @@ module _ (ws : List ℕ) (k count w : ℕ) (h : 32 * k < count) (first : FirstBi
   pub word-fits : (fits : ℕ → Bool) → anyPast fits (positions ws count) ≡ false → anyPast (λ (i : ℕ). fits (32 * k + i)) (wordPositions w) ≡ false
   word-fits fits e =
       let q : List ℕ = map (λ (i : ℕ). 32 * k + i) (wordPositions w) in
-      let a = or-left (anyPast fits (positions ws (min (32 * k + 32) count))) (anyPast fits (after .0)) (sym (past-append fits (positions ws (min (32 * k + 32) count)) (after .0)) ∙ ap (anyPast fits) (sym (after .1)) ∙ e) in
+      let a = neither (anyPast fits (positions ws (min (32 * k + 32) count))) (anyPast fits (after .0)) (sym (past-append fits (positions ws (min (32 * k + 32) count)) (after .0)) ∙ ap (anyPast fits) (sym (after .1)) ∙ e) .0 in
       let b : anyPast fits (positions ws (32 * k) ++ q) ≡ false = ap (anyPast fits) (sym (positions-word ws k count w h first)) ∙ a in
-      let d = or-right (anyPast fits (positions ws (32 * k))) (anyPast fits q) (sym (past-append fits (positions ws (32 * k)) q) ∙ b) in
+      let d = neither (anyPast fits (positions ws (32 * k))) (anyPast fits q) (sym (past-append fits (positions ws (32 * k)) q) ∙ b) .1 in
       sym (past-map fits (λ (i : ℕ). 32 * k + i) (wordPositions w)) ∙ d
 
   lengths : length (positions ws (min (32 * k + 32) count)) ≡ length (positions ws (32 * k)) + length (wordPositions w)

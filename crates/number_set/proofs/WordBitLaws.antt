@@ -2,22 +2,18 @@
 use Prim.Native.Nat.{ℕ, zero, suc, _+_, _*_, _/_, _%_, _^_, _-_, _<_, _≤_, min}
 use mathlib.Core.Path.{_≡_, refl, ap, _∙_, sym, subst}
 use mathlib.Core.Bool.{Bool, true, false, _&&_}
-use mathlib.Core.List.{List, [], _∷_, _++_, map, append-nil, append-assoc}
+use mathlib.Core.List.{List, [], _∷_, _++_, map, append-nil, append-assoc, map-append}
 use native.Mathlib.Omega.{arith}
 use native.Mathlib.Decide.{decLt}
 use native.Mathlib.Nat.{add-zero, add-suc, mul-assoc, mul-mod-left, mul-div-mul-right, zero-div}
 use lib.ListN.{length, getD, length-append}
 use lib.Dec.{eqb, ltb}
 use lib.Pow.{pow-add, pow-pos, shl-shr, shr-shr, field, mod-mod-pow}
-use borrow.Author.Tests.{lt-ltb, le-ltb, eq-eqb, ne-eqb}
+use borrow.Author.Tests.{lt-ltb, le-ltb, eq-eqb}
 use Rattle.number_set.specs.Bitmap.{hasBit, onlyIf, positions}
 use Rattle.number_set.specs.Inner.{wordPositions}
 
 -- ---- lists of positions
-
-pub map-append : {A : Type 0} (f : ℕ → A) (xs ys : List ℕ) → map f (xs ++ ys) ≡ map f xs ++ map f ys
-map-append f [] ys = refl
-map-append f (x ∷ xs) ys = ap (λ (l : List _). f x ∷ l) (map-append f xs ys)
 
 -- where the bits from a on are those of other words, so are the positions
 pub positions-join : (xs ys : List ℕ) (a m : ℕ) → ((i : ℕ) → i < m → hasBit xs (a + i) ≡ hasBit ys i)

@@ -1,4 +1,5 @@
--- Laws of `specs/Calls.antt`: what each step keeps of the rules, which way of a call is which, and that no step lowers the base. Assumes nothing.
+-- Laws of `specs/Calls.antt`: what each step keeps of the rules, which way of a call is which, that no step lowers the base, and what is refused.
+-- Assumes nothing.
 use Prim.Native.Nat.{ℕ, zero, suc, _+_, _-_, _<_, _≤_, max}
 use native.Mathlib.Omega.{arith}
 use native.Mathlib.Nat.{not-suc-le-zero, suc-add, zero-add}
@@ -15,14 +16,13 @@ use mir.Val.{SFits}
 use borrow.Author.Tests.{lt-ltb, le-ltb, ltb-true, le-leb, lt-leb, eq-eqb, ne-eqb}
 use Rattle.sequence_number.specs.Number.{top, isNumber, natOf, numberOf}
 use Rattle.sequence_number.proofs.Split.{split, split-lt, split-eq}
-use Rattle.sequence_number.proofs.NumberLaws.{number-is}
+use Rattle.sequence_number.proofs.NumberLaws.{number-is, nat-top}
 use Rattle.proxy_record.specs.Entries.{Entry, Rising, below, from, putIn, runLen}
 use Rattle.proxy_record.specs.State.{State, Ok, freshState, changed, cap}
 use Rattle.proxy_record.specs.Rows.{blank}
 use Rattle.proxy_record.proofs.EntriesLaws.{below-none, from-all, from-skip, from-drop, rising-from, rising-put, length-put, from-put, run-bound, from-run}
-use Rattle.sequence_number.specs.Outcome.{done, refused}
-use Rattle.proxy_core.specs.Calls.{noted, put, rebased, moveOn, discard, settled, lowestGone, trim, capped, unforced, ended, got, unavailable, receivedAt, received, irrelevantAt, irrelevant, without, skipped, putEach, rangeAt, irrelevantRange}
-use Rattle.proxy_core.proofs.NatLaws.{nat-top}
+use Rattle.sequence_number.specs.Outcome.{done, refused, refusal}
+use Rattle.proxy_core.specs.Calls.{Reply, noted, put, rebased, moveOn, discard, settled, lowestGone, trim, capped, unforced, ended, refuses, got, unavailable, receivedAt, received, irrelevantAt, irrelevant, without, skipped, putEach, rangeAt, irrelevantRange}
 use Rattle.sequence_number.proofs.KindLaws.{rank-above}
 
 -- The rules
@@ -358,3 +358,60 @@ ended-accepted s k =
     split (ltb cap (length (s .tracked)))
     (λ e. rw e (λ h. let z : _≡_ {A = ℕ} 0 1 = cc in omega arith))
     (λ e. rw e (λ h. let z : _≡_ {A = ℕ} 0 1 = cc in omega arith))
+
+pub received-accepted : (n t : ℕ) (s : State) (k : ℕ) → receivedAt n t s .report ≡ refused k → ⊥
+unfolding receivedAt
+received-accepted n t s k = ended-accepted (settled n (put (got n t) (noted n t s))) k
+
+pub irrelevant-accepted : (n : ℕ) (s : State) (k : ℕ) → irrelevantAt n s .report ≡ refused k → ⊥
+unfolding irrelevantAt
+irrelevant-accepted n s k = ended-accepted (settled n (cond (ltb n (s .base)) s (put (unavailable n) s))) k
+
+pub range-accepted : (a b : ℕ) (s : State) (k : ℕ) → rangeAt a b s .report ≡ refused k → ⊥
+unfolding rangeAt
+range-accepted a b s k = ended-accepted (cond (leb a (s .base)) (skipped a b s) (putEach a (b - a) s)) k
+
+-- A call that is refused by one test, and goes on to the cap otherwise: refused, it changes nothing
+
+module _ (j : ℕ) (s : State) (x : Reply) (h : (k : ℕ) → x .report ≡ refused k → ⊥) where
+  unless-same : (b : Bool) (k : ℕ) → cond b x (refuses j s) .report ≡ refused k → cond b x (refuses j s) .state ≡ s
+  unless-same true k e = absurd (h k e)
+  unless-same false k e = refl
+
+  if-same : (b : Bool) (k : ℕ) → cond b (refuses j s) x .report ≡ refused k → cond b (refuses j s) x .state ≡ s
+  if-same false k e = absurd (h k e)
+  if-same true k e = refl
+
+pub received-refused-same : (n : ℤ) (s : State) (t k : ℕ) → received n t s .report ≡ refused k → received n t s .state ≡ s
+unfolding received
+received-refused-same n s t k = unless-same 4 s (receivedAt (natOf n) t s) (received-accepted (natOf n) t s) (isNumber n) k
+
+pub irrelevant-refused-same : (n : ℤ) (s : State) (k : ℕ) → irrelevant n s .report ≡ refused k → irrelevant n s .state ≡ s
+unfolding irrelevant
+irrelevant-refused-same n s k = unless-same 4 s (irrelevantAt (natOf n) s) (irrelevant-accepted (natOf n) s) (isNumber n) k
+
+pub range-refused-same : (a b : ℤ) (s : State) (k : ℕ) → irrelevantRange a b s .report ≡ refused k → irrelevantRange a b s .state ≡ s
+unfolding irrelevantRange
+range-refused-same a b s k = if-same 5 s (rangeAt (natOf a) (natOf b) s) (range-accepted (natOf a) (natOf b) s) (ltZ b a) k
+
+-- The number that document 01 gives
+
+ended-number : (s : State) → refusal (ended s .report) ≡ 0
+unfolding ended
+ended-number s = split (ltb cap (length (s .tracked))) (λ e. rw e) (λ e. rw e)
+
+received-number-at : (n t : ℕ) (s : State) → refusal (receivedAt n t s .report) ≡ 0
+unfolding receivedAt
+received-number-at n t s = ended-number (settled n (put (got n t) (noted n t s)))
+
+range-number-at : (a b : ℕ) (s : State) → refusal (rangeAt a b s .report) ≡ 0
+unfolding rangeAt
+range-number-at a b s = ended-number (cond (leb a (s .base)) (skipped a b s) (putEach a (b - a) s))
+
+pub received-number : (n : ℤ) (t : ℕ) (s : State) → refusal (received n t s .report) ≡ cond (isNumber n) 0 4
+unfolding received
+received-number n t s = split (isNumber n) (λ e. rw e (received-number-at (natOf n) t s)) (λ e. rw e)
+
+pub range-number : (a b : ℤ) (s : State) → refusal (irrelevantRange a b s .report) ≡ cond (ltZ b a) 5 0
+unfolding irrelevantRange
+range-number a b s = split (ltZ b a) (λ e. rw e) (λ e. rw e (range-number-at (natOf a) (natOf b) s))

@@ -1,4 +1,3 @@
-pub mod NatLaws
 pub mod CallsLaws
 pub mod RangeLaws
 pub mod StepLaws

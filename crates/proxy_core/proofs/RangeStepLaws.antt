@@ -21,12 +21,12 @@ use Rattle.proxy_record.specs.Record.{recordOf, stateOf, tracked, Good}
 use Rattle.proxy_record.specs.Rows.{blank, rank}
 use Rattle.proxy_record.proofs.EntriesLaws.{rising-any, from-drop, rank-within, rank-low, rising-from}
 use Rattle.proxy_record.proofs.PartLaws.{base-laid}
-use Rattle.proxy_record.proofs.RecordLaws.{kept-of, of-laid, state-of}
+use Rattle.proxy_record.proofs.RecordLaws.{kept-of, of-laid, state-of, good-rising}
 use Rattle.proxy_record.proofs.RowLaws.{number-word, place-row}
 use Rattle.proxy_core.specs.declared.Report.{Report}
 use Rattle.proxy_core.specs.declared.Report.the-variants.{Done, Forced, Refused}
 use Rattle.proxy_core.specs.Calls.{put, rebased, moveOn, discard, ended, forced, unavailable, skipped, putEach, rangeAt, irrelevantRange, Answered}
-use Rattle.proxy_core.proofs.NatLaws.{nat-top}
+use Rattle.sequence_number.proofs.NumberLaws.{nat-top}
 use Rattle.sequence_number.proofs.KindLaws.{rank-above}
 use Rattle.proxy_core.proofs.CallsLaws.{ok-put, ended-few, skipped-none, skipped-some, skipped-same, range-at-low, range-at-above, ok-range}
 use Rattle.proxy_core.proofs.RangeLaws.{gone, rangeIn, rising-range, length-range, each-is, each-more, ended-many, get-low, drop-high, get-high, range-drop, rising-drop, range-from}
@@ -109,16 +109,13 @@ module _ (w : List ℕ) (g : Good w) (a b x y T : ℕ) (h : stateOf w .base < a)
   at-b : y ≡ rank b (tracked w)
   at-b = place-row w g (getD w 1 0) b y (g .count) py
 
-  any : Rising 0 top (tracked w)
-  any = rising-any (stateOf w .base) top (tracked w) (g .ok .rising)
-
   all : length (rangeIn a b (tracked w)) ≡ T
-  all = rw (t, at-a, at-b, g .count) (length-range a b (tracked w) any)
+  all = rw (t, at-a, at-b, g .count) (length-range a b (tracked w) (good-rising w g))
 
   each : putEach a (b - a) (stateOf w) ≡ changed (rangeIn a b (tracked w)) (stateOf w)
   each =
       let u : a + (b - a) ≡ b = omega arith in
-      rw u at (each-is (b - a) a (stateOf w) any (omega arith))
+      rw u at (each-is (b - a) a (stateOf w) (good-rising w g) (omega arith))
 
   pub room-few : T ≤ cap → Room w a (b - a)
   room-few q = (g, omega arith, omega arith, rw (each, all) q)
@@ -178,7 +175,7 @@ module _ (w : List ℕ) (g : Good w) (a b x y T : ℕ) (h : stateOf w .base < a)
         rw (add-one, entry-at) s
 
     low-base : e + 1 ≡ suc (getD (rangeIn a b (tracked w)) (T - cap - 1) blank .number)
-    low-base = rw (get-low a b (tracked w) any (T - cap - 1) inside) (omega (arith, entry-at))
+    low-base = rw (get-low a b (tracked w) (good-rising w g) (T - cap - 1) inside) (omega (arith, entry-at))
 
     low-rest : rangeIn a b (drop (T - cap) (tracked w)) ≡ drop (T - cap) (rangeIn a b (tracked w))
     low-rest = range-drop (stateOf w .base) a b (T - cap) (tracked w) j (g .ok .rising) (omega (arith, at-a))
@@ -199,27 +196,27 @@ module _ (w : List ℕ) (g : Good w) (a b x y T : ℕ) (h : stateOf w .base < a)
     high-within = omega (arith, g .count, g .ok .few)
 
     left : drop n (tracked w) ≡ from (a + (T - cap - x)) (tracked w)
-    left = rw at-new (from-drop 0 top (a + (T - cap - x)) (tracked w) any)
+    left = rw at-new (from-drop 0 top (a + (T - cap - x)) (tracked w) (good-rising w g))
 
     high-base : a + (T - cap - x) ≡ suc (getD (rangeIn a b (tracked w)) (T - cap - 1) blank .number)
     high-base =
         let i : T - cap - 1 ≡ rank a (tracked w) + (T - cap - 1 - x) = omega (arith, at-a) in
-        rw i (omega (arith, get-high a b (tracked w) any (T - cap - 1 - x) (omega (arith, high-within))))
+        rw i (omega (arith, get-high a b (tracked w) (good-rising w g) (T - cap - 1 - x) (omega (arith, high-within))))
 
     high-rest : rangeIn (a + (T - cap - x)) b (drop n (tracked w)) ≡ drop (T - cap) (rangeIn a b (tracked w))
     high-rest =
         let i : T - cap ≡ rank a (tracked w) + (T - cap - x) = omega (arith, at-a) in
         let m : b - (a + (T - cap - x)) ≡ b - a - (T - cap - x) = omega arith in
         let k : drop (T - cap) (rangeIn a b (tracked w)) ≡ gone (a + (T - cap - x)) (b - a - (T - cap - x)) ++ drop (rank b (tracked w)) (tracked w) =
-        ap (λ (v : ℕ). drop v (rangeIn a b (tracked w))) i ∙ drop-high a b (tracked w) any (T - cap - x) (omega (arith, high-within)) in
+        ap (λ (v : ℕ). drop v (rangeIn a b (tracked w))) i ∙ drop-high a b (tracked w) (good-rising w g) (T - cap - x) (omega (arith, high-within)) in
         ap (rangeIn (a + (T - cap - x)) b) left
         ∙ range-from (a + (T - cap - x)) b (tracked w) high-within
         ∙ ap (λ (v : ℕ). gone (a + (T - cap - x)) v ++ from b (tracked w)) m
-        ∙ ap (λ (l : List Entry). gone (a + (T - cap - x)) (b - a - (T - cap - x)) ++ l) (sym (from-drop 0 top b (tracked w) any))
+        ∙ ap (λ (l : List Entry). gone (a + (T - cap - x)) (b - a - (T - cap - x)) ++ l) (sym (from-drop 0 top b (tracked w) (good-rising w g)))
         ∙ sym k
 
     high-rising : Rising (a + (T - cap - x)) top (drop n (tracked w))
-    high-rising = rw left (rising-from 0 top (a + (T - cap - x)) (tracked w) any)
+    high-rising = rw left (rising-from 0 top (a + (T - cap - x)) (tracked w) (good-rising w g))
 
     pub room-high : Room (set u 0 (a + (T - cap - x))) (a + (T - cap - x)) (b - (a + (T - cap - x)))
     room-high = room-forced (omega arith) n (a + (T - cap - x)) (a + (T - cap - x)) u z high-rising (omega arith) (omega arith) high-within high-base high-rest

@@ -7,11 +7,13 @@ use mathlib.Core.Path.{_≡_, refl, sym, ap, _∙_, subst}
 use mathlib.Core.List.{List, [], _∷_, _++_, map, append-assoc, map-append}
 use lib.ListN.{length, take, drop, getD, set, length-append, length-take, length-drop, length-map, List·getD-append, List·getD-map}
 use lib.Seq.{set-split, getD-take, getD-drop, drop-drop, take-at, drop-at, take-append-le, drop-append-le, set-append-left}
-use Rattle.proxy_record.specs.Entries.{Mark, Entry, NotAvailable, Received}
+use Rattle.sequence_number.specs.Number.{top}
+use Rattle.proxy_record.specs.Entries.{Mark, Entry, NotAvailable, Received, Rising}
 use Rattle.proxy_record.specs.State.{State, Ok}
 use Rattle.proxy_record.specs.Column.{opened, shutOf}
-use Rattle.proxy_record.specs.Record.{GoodUpTo, kindOf, timeOf, markOf, numberIn, kindIn, timeIn, column, layout, recordOf, row, rows, stateOf, zeros}
+use Rattle.proxy_record.specs.Record.{GoodUpTo, Good, tracked, kindOf, timeOf, markOf, numberIn, kindIn, timeIn, column, layout, recordOf, row, rows, stateOf, zeros}
 use Rattle.proxy_record.specs.Rows.{blank, insert, replace}
+use Rattle.proxy_record.proofs.EntriesLaws.{rising-any}
 use Rattle.proxy_record.proofs.ColumnLaws.{length-zeros, zeros-append, drop-zeros}
 use Rattle.proxy_record.proofs.PartLaws.{Laid, laid-length, numbers-of, kinds-of, times-of, base-at, count-at, last-at, time-at}
 
@@ -132,3 +134,7 @@ good-is m w s h k e =
       count = count-at d ∙ ap (λ (x : State). length (x .tracked)) (sym z);
       ok = subst (λ (x : State). Ok m x) (sym z) k;
     }
+
+-- the numbers that a good record tracks rise
+pub good-rising : (w : List ℕ) → Good w → Rising 0 top (tracked w)
+good-rising w g = rising-any (stateOf w .base) top (tracked w) (g .ok .rising)

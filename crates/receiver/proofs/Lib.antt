@@ -1,4 +1,3 @@
 pub mod ExportLaws
-pub mod SetAnswers
 pub mod AssemblerLaws
 pub mod ProxyLaws

@@ -15,17 +15,19 @@ use borrow.Author.Tests.{lt-ltb, le-ltb, eqb-true, eqb-false}
 use Rattle.sequence_number.specs.Outcome.{Outcome}
 use Rattle.sequence_number.specs.Outcome as outcome
 use Rattle.sequence_number.specs.Number.{top, isNumber, natOf}
-use Rattle.sequence_number.proofs.Split.{split-lt}
+use Rattle.sequence_number.proofs.Split.{split-lt, clash}
+use Rattle.sequence_number.proofs.NumberLaws.{end-top}
 use Rattle.proxy_record.specs.State.{State, freshState}
 use Rattle.proxy_record.specs.Record.{recordOf, stateOf, Good, size}
 use Rattle.proxy_core.proofs.StepLaws.{good-of}
 use Rattle.proxy_core.specs.Calls.{Reply, received, receivedAt, irrelevant, irrelevantAt, irrelevantRange, rangeAt}
-use Rattle.proxy_core.proofs.CallsLaws.{ok-fresh}
+use Rattle.proxy_core.proofs.CallsLaws.{ok-fresh, received-accepted, irrelevant-accepted, range-accepted, received-refused-same, irrelevant-refused-same, range-refused-same}
 use Rattle.writer_proxy.specs.SetUp.{setUp, Begun}
 use Rattle.writer_proxy.specs.Missing.{missingOf, listed, After}
-use Rattle.writer_proxy.proofs.Refusals.{received-accepted, irrelevant-accepted, range-accepted, end-top, received-refused-same, irrelevant-refused-same, range-refused-same, missing-refused-same, set-up-refused-same}
+use Rattle.writer_proxy.proofs.MissingLaws.{missing-refused-same}
+use Rattle.writer_proxy.proofs.SetUpLaws.{set-up-refused-same}
 use Rattle.refusals.specs.RefusalTable.{Row, Verdict, refused, Exactly, Refuses, verdict, notTaken, rangeRows, missingRows, shorter}
-use Rattle.refusals.proofs.RowLaws.{said-refused, said-accepted, none-left, asks, asks-not, asks-less, clash}
+use Rattle.refusals.proofs.RowLaws.{said-refused, said-accepted, none-left, asks, asks-not, asks-less}
 
 -- what is promised of a call that says so, and leaves so
 pub told-as : {A B : Type 0} {x y : Outcome A} {before after out : B} (rows : List Row) → Refuses (verdict x) rows (after ≡ before) → (y ≡ x) × (out ≡ after)

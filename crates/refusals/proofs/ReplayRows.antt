@@ -24,7 +24,9 @@ use Rattle.proxy_record.specs.State.{State}
 use Rattle.proxy_record.specs.Record.{recordOf, stateOf, Good}
 use Rattle.proxy_core.specs.Calls.{received, irrelevantRange}
 use Rattle.writer_proxy.specs.Missing.{missingOf, listed}
-use Rattle.writer_proxy.proofs.Refusals.{end-top, received-number, range-number, missing-number, received-refused-same, range-refused-same, missing-refused-same}
+use Rattle.sequence_number.proofs.NumberLaws.{end-top}
+use Rattle.proxy_core.proofs.CallsLaws.{received-number, range-number, received-refused-same, range-refused-same}
+use Rattle.writer_proxy.proofs.MissingLaws.{missing-number, missing-refused-same}
 use Rattle.replay_lines.specs.Hex.{digitOf, allHex, valueAt}
 use Rattle.replay_lines.specs.Frame.{frameOf, parsed}
 use Rattle.replay_lines.specs.Decimal.{lineOf}

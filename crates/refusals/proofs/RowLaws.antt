@@ -2,28 +2,15 @@
 use Prim.Native.Nat.{ℕ, zero, suc, _<_, _≤_}
 use native.Mathlib.Omega.{arith}
 use mathlib.Core.Path.{_≡_, refl, sym, ap}
-use mathlib.Core.Bool.{Bool, true, false, cond, _&&_, _||_}
+use mathlib.Core.Bool.{Bool, true, false, cond, _&&_}
 use mathlib.Core.Logic.{inl, inr, ⊎-elim}
 use mathlib.Core.List.{List, [], _∷_}
 use lib.Dec.{ltb}
 use borrow.Author.Tests.{ltb-true, ltb-false}
 use Rattle.sequence_number.specs.Outcome.{Outcome, refusal, left}
 use Rattle.sequence_number.specs.Outcome as outcome
+use Rattle.sequence_number.proofs.Split.{both}
 use Rattle.refusals.specs.RefusalTable.{Row, row, GivenBy, Verdict, accepted, refused, Exactly, verdict, numbered}
-
--- ---- tests
-
-pub clash : (b : Bool) → b ≡ true → b ≡ false → ⊥
-clash true e f = let z : _≡_ {A = ℕ} 0 1 = cc in omega arith
-clash false e f = let z : _≡_ {A = ℕ} 0 1 = cc in omega arith
-
-pub and-true : (a b : Bool) → (a && b) ≡ true → (a ≡ true) × (b ≡ true)
-and-true true b e = (refl, e)
-and-true false b e = let z : _≡_ {A = ℕ} 0 1 = cc in absurd (omega arith)
-
-pub or-false : (a b : Bool) → a || b ≡ false → (a ≡ false) × (b ≡ false)
-or-false true b e = absurd (clash true refl e)
-or-false false b e = (refl, e)
 
 -- ---- rows
 
@@ -86,7 +73,7 @@ positive (r ∷ rows) = ltb 0 (r .number) && positive rows
 pub not-nought : (rows : List Row) → positive rows ≡ true → GivenBy 0 rows → ⊥
 not-nought [] p g = g
 not-nought (r ∷ rows) p g =
-    let b = and-true (ltb 0 (r .number)) (positive rows) p in
+    let b = both (ltb 0 (r .number)) (positive rows) p in
     ⊎-elim (λ h. omega (arith, ltb-true 0 (r .number) (b .0), h .0)) (λ h. not-nought rows (b .1) (h .1)) g
 
 pub as-number : {A : Type 0} (x : Outcome A) (rows : List Row) → positive rows ≡ true → Exactly (verdict x) rows → Exactly (numbered (refusal x)) rows

@@ -20,11 +20,11 @@ use Rattle.number_set.specs.SetWire.{Taken, readSet, takenSet, setBytes, writeS
 use Rattle.number_set.specs.Make.{rising, makeSet}
 use Rattle.number_set.specs.Walk.{walkSet, anyPast, inOrder}
 use Rattle.sequence_number.specs.declared.ByteOrder.{ByteOrder}
-use Rattle.sequence_number.proofs.Split.{split}
+use Rattle.sequence_number.proofs.Split.{split, both}
 use Rattle.sequence_number.proofs.KindLaws.{Lawful}
 use Rattle.number_set.proofs.SetWireLaws.{length-set-bytes}
 use Rattle.refusals.specs.RefusalTable.{Row, Verdict, Exactly, verdict, numbered, Alone, readNumberRows, writeNumberRows, readSetRows, walkRows, writeSetRows, measureSetRows, makeSetRows, StrictlyRising, ReadNumber, WriteNumber, ReadSet, WalkSet, WriteSet, MeasureSet, MakeSet, PastSequence, PastFragment}
-use Rattle.refusals.proofs.RowLaws.{none-left, asks, asks-not, asks-less, positive, as-number, by-number, left-refused, and-true}
+use Rattle.refusals.proofs.RowLaws.{none-left, asks, asks-not, asks-less, positive, as-number, by-number, left-refused}
 
 -- ---- what is found, or why it is refused
 
@@ -57,8 +57,8 @@ module _ (k : Kind) where
   rises : (xs : List (k .Number)) → rising k xs ≡ true → StrictlyRising k xs
   rises [] e i h = absurd (omega arith)
   rises (x ∷ []) e i h = absurd (omega arith)
-  rises (x ∷ y ∷ xs) e zero h = and-true (k .below x y) (rising k (y ∷ xs)) e .0
-  rises (x ∷ y ∷ xs) e (suc i) h = rises (y ∷ xs) (and-true (k .below x y) (rising k (y ∷ xs)) e .1) i (omega arith)
+  rises (x ∷ y ∷ xs) e zero h = both (k .below x y) (rising k (y ∷ xs)) e .0
+  rises (x ∷ y ∷ xs) e (suc i) h = rises (y ∷ xs) (both (k .below x y) (rising k (y ∷ xs)) e .1) i (omega arith)
 
   risen : (xs : List (k .Number)) → StrictlyRising k xs → rising k xs ≡ true
   risen [] f = refl

@@ -1,14 +1,12 @@
 -- The table is proved, call by call. Assumes nothing.
-use mathlib.Core.Path.{_≡_, refl}
-use lib.IntN.{ℤ, pos}
-use Prim.Native.Nat.{ℕ}
-use Rattle.sequence_number.specs.Outcome.{Outcome, refused, done, refusal}
+use mathlib.Core.Path.{refl}
+use lib.IntN.{pos}
 use Rattle.sequence_number.specs.Kind.{sequence, fragment}
 use Rattle.sequence_number.specs.NumberWire.{readSequence, readFragment}
-use Rattle.number_set.specs.NumberSet.{NumberSet}
-use Rattle.number_set.specs.SetWire.{Taken, sequenceSetRead, fragmentSetRead}
+use Rattle.number_set.specs.SetWire.{sequenceSetRead, fragmentSetRead}
 use Rattle.number_set.specs.Make.{sequenceSetMade, fragmentSetMade}
 use Rattle.sequence_number.proofs.KindLaws.{sequence-lawful, fragment-lawful}
+use Rattle.number_set.proofs.SetAnswers.{sequence-read-number, fragment-read-number, sequence-made-number, fragment-made-number}
 use Rattle.refusals.specs.RefusalTable.{Order, RefusalTable, shorter, notTaken, rangeRows, missingRows, PastSequence, PastFragment}
 use mathlib.Core.List.{[], _∷_}
 use Rattle.proxy_record.specs.State.{freshState}
@@ -18,23 +16,6 @@ use Rattle.refusals.proofs.AssemblerRows as assembler
 use Rattle.refusals.proofs.AssemblerRows.{fragment-rows, clean-rows}
 use Rattle.refusals.proofs.ReplayRows.{parse-rows, answer-rows, line-rows, feed-rows, feed-line}
 use Rattle.refusals.proofs.SetRows.{number-read, number-written, set-read, set-written, set-measured, set-made, set-walked, sequence-over, sequence-within, fragment-over, fragment-within}
-
--- the answers that hold a set have the refusal's number
-sequence-read : (x : Outcome (Taken ℤ)) → sequenceSetRead x .refusal ≡ refusal x
-sequence-read (refused n) = refl
-sequence-read (done t) = refl
-
-fragment-read : (x : Outcome (Taken ℕ)) → fragmentSetRead x .refusal ≡ refusal x
-fragment-read (refused n) = refl
-fragment-read (done t) = refl
-
-sequence-made : (x : Outcome (NumberSet ℤ)) → sequenceSetMade x .refusal ≡ refusal x
-sequence-made (refused n) = refl
-sequence-made (done s) = refl
-
-fragment-made : (x : Outcome (NumberSet ℕ)) → fragmentSetMade x .refusal ≡ refusal x
-fragment-made (refused n) = refl
-fragment-made (done s) = refl
 
 in-order : Order
 in-order =
@@ -56,10 +37,10 @@ refusal-table =
       read-fragment-number = number-read fragment readFragment;
       write-sequence-number = number-written sequence sequence-lawful;
       write-fragment-number = number-written fragment fragment-lawful;
-      read-from = (set-read sequence sequenceSetRead (λ r. r .refusal) sequence-read, set-read fragment fragmentSetRead (λ r. r .refusal) fragment-read);
+      read-from = (set-read sequence sequenceSetRead (λ r. r .refusal) sequence-read-number, set-read fragment fragmentSetRead (λ r. r .refusal) fragment-read-number);
       write-to = (set-written sequence sequence-lawful, set-written fragment fragment-lawful);
       len-serialized = (set-measured sequence, set-measured fragment);
-      from-base-and-set = (set-made sequence sequenceSetMade (λ r. r .refusal) sequence-made, set-made fragment fragmentSetMade (λ r. r .refusal) fragment-made);
+      from-base-and-set = (set-made sequence sequenceSetMade (λ r. r .refusal) sequence-made-number, set-made fragment fragmentSetMade (λ r. r .refusal) fragment-made-number);
       iter = (set-walked sequence PastSequence sequence-over sequence-within, set-walked fragment PastFragment fragment-over fragment-within);
       proxy-set-up = λ w w′ r. told-as (shorter w (recordOf freshState) ∷ []) (set-up-rows w);
       received-changes-add = λ w w′ n time r g f. told-as (notTaken n ∷ []) (add-rows w g n time f);

@@ -15,7 +15,7 @@ use borrow.Author.Tests.{lt-ltb, le-ltb, ltb-true, ltb-false}
 use Rattle.sequence_number.specs.Number.{top, natOf}
 use Rattle.sequence_number.proofs.Split.{split}
 use Rattle.sequence_number.proofs.RunLaws.{sets-sets}
-use Rattle.proxy_core.proofs.NatLaws.{nat-top, nat-passed}
+use Rattle.sequence_number.proofs.NumberLaws.{nat-top, nat-passed}
 use Rattle.replay_lines.specs.Decimal.{digitsWithin, digits, next, spaced, started}
 
 -- once there are enough, more steps change nothing

@@ -5,8 +5,10 @@ use mathlib.Core.List.{List, _++_, append-assoc}
 use mathlib.Core.Logic.{_⊎_, inl, inr, ⊎-elim}
 use mathlib.Core.Bool.{true, false}
 use native.Mathlib.Omega.{arith}
+use native.Mathlib.Decide.{decLt}
 use lib.ListN.{length, length-append}
 use lib.Seq.{sets}
+use lib.Dec.{ltb}
 use lib.IntN.{ℤ, pos, negsuc, _+ℤ_, _*ℤ_}
 use lib.Signed.{ltZ}
 use Rattle.sequence_number.specs.Number.{natOf}
@@ -114,6 +116,18 @@ below-plus (negsuc b) i j h = go (split-lt i (suc b)) (split-lt j (suc b))
     go (inr p) (inl q) = absurd (omega arith)
     go (inr p) (inr q) = rw (le-ltb i (suc b) p, le-ltb j (suc b) q) (lt-ltb (i - suc b) (j - suc b) (omega arith))
 
+-- a position below one that fits, fits
+pub fits-below : (b : ℤ) (k m : ℕ) → k ≤ m → sequence .fits b m ≡ true → sequence .fits b k ≡ true
+fits-below (pos a) k m h t = lt-ltb (a + k) (2 ^ 63) (omega (arith, ltb-true (a + m) (2 ^ 63) t))
+fits-below (negsuc a) k m h t = go (decLt k (suc a)) (decLt m (suc a)) t
+  where
+    go : Dec (k < suc a) → Dec (m < suc a) → sequence .fits (negsuc a) m ≡ true → sequence .fits (negsuc a) k ≡ true
+    go (yes p) q u = rw (lt-ltb k (suc a) p)
+    go (no p) (yes q) u = absurd (omega (arith, p))
+    go (no p) (no q) u =
+        let v : ltb (m - suc a) (2 ^ 63) ≡ true = rw (le-ltb m (suc a) (omega (arith, q))) at u in
+        rw (le-ltb k (suc a) (omega (arith, p))) (lt-ltb (k - suc a) (2 ^ 63) (omega (arith, p, ltb-true (m - suc a) (2 ^ 63) v)))
+
 -- ---- what every kind of number has in common
 
 pub record Lawful (k : Kind) : Type 1 where
@@ -130,6 +144,7 @@ pub record Lawful (k : Kind) : Type 1 where
   pub plus-apart : (a b : k .Number) → 1 ≤ rank a → rank a ≤ rank b → k .plus a (k .apart a b) ≡ b
   pub apart-plus : (a : k .Number) (i : ℕ) → 1 ≤ rank a → k .apart a (k .plus a i) ≡ i
   pub below-plus : (b : k .Number) (i j : ℕ) → i < j → k .below (k .plus b i) (k .plus b j) ≡ true
+  pub fits-below : (b : k .Number) (i j : ℕ) → i ≤ j → k .fits b j ≡ true → k .fits b i ≡ true
 
 abbrev pub sequence-lawful : Lawful sequence
 sequence-lawful =
@@ -145,6 +160,7 @@ sequence-lawful =
       plus-apart = plus-apart;
       apart-plus = apart-plus;
       below-plus = below-plus;
+      fits-below = fits-below;
     }
 
 abbrev pub fragment-lawful : Lawful fragment
@@ -161,4 +177,5 @@ fragment-lawful =
       plus-apart = λ a b h l. omega arith;
       apart-plus = λ a i h. omega arith;
       below-plus = λ b i j h. lt-ltb (b + i) (b + j) (omega arith);
+      fits-below = λ b i j h t. lt-ltb (b + i) (2 ^ 32) (omega (arith, ltb-true (b + j) (2 ^ 32) t));
     }

@@ -4,5 +4,6 @@ pub mod SignedLaws
 pub mod RunLaws
 pub mod WordLaws
 pub mod KindLaws
+pub mod FitLaws
 pub mod NumberWireLaws
 pub mod Determined

@@ -1,10 +1,10 @@
--- Laws of runs of stores, `lib.Seq.sets`: one after the other, and what stands where a run was stored. Assumes nothing.
-use Prim.Native.Nat.{ℕ, suc, _+_, _<_, _≤_}
+-- Laws of runs of stores, `lib.Seq.sets`, one after the other and over a lent list, and of a run of one element. Assumes nothing.
+use Prim.Native.Nat.{ℕ, zero, suc, _+_, _-_, _<_, _≤_}
 use mathlib.Core.Path.{_≡_, ap, _∙_}
 use mathlib.Core.List.{List, [], _∷_, _++_, append-assoc}
 use native.Mathlib.Omega.{arith}
-use native.Mathlib.Nat.{add-zero}
-use lib.ListN.{length, drop, getD, set, length-append}
+use native.Mathlib.Nat.{add-zero, sub-zero, zero-sub, suc-sub-suc}
+use lib.ListN.{length, drop, getD, set, replicate, length-append}
 use lib.Seq.{sets, sets-eq, drop-cons, set-at}
 use Rattle.sequence_number.specs.Lent.{over}
 
@@ -37,3 +37,9 @@ pub over-more : {A : Type 0} (m out : List A) (w : ℕ) (x : A) → length m ≡
 over-more m out w x e h =
     let k : length (m ++ (x ∷ [])) ≡ suc w = simp length-append (omega arith) in
     rw (k, e, drop-cons out w x h, set-at m (getD out w x) (drop (suc w) out) x w e, append-assoc)
+
+-- what is left of a run of one element
+pub drop-replicate : {A : Type 0} (n m : ℕ) (x : A) → drop n (replicate m x) ≡ replicate (m - n) x
+drop-replicate zero m x = rw sub-zero
+drop-replicate (suc n) zero x = rw zero-sub
+drop-replicate (suc n) (suc m) x = rw suc-sub-suc (drop-replicate n m x)

@@ -5,7 +5,7 @@ use mathlib.Core.List.{List, _++_}
 use native.Mathlib.Omega.{arith}
 use lib.ListN.{length, getD}
 use lib.Seq.{getD-append-add}
-use Rattle.sequence_number.specs.Word.{word, wordAt, wordBytes}
+use Rattle.sequence_number.specs.Word.{wordAt, wordBytes}
 use Rattle.sequence_number.specs.declared.ByteOrder.{ByteOrder}
 use Rattle.sequence_number.specs.declared.ByteOrder.the-variants.{Big, Little}
 

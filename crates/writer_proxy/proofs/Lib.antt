@@ -4,6 +4,5 @@ pub mod TrackedLaws
 pub mod ShownLaws
 pub mod MissingLaws
 pub mod CounterLaws
-pub mod Refusals
 pub mod Promises
 pub mod Determined

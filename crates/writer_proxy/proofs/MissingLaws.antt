@@ -1,4 +1,4 @@
--- Laws of `specs/Missing.antt`: the list by its parts, how many it has, and one turn of the loop that writes it. Assumes nothing.
+-- Laws of `specs/Missing.antt`: the list by its parts, how many it has, one turn of the loop that writes it, and its refusals. Assumes nothing.
 use Prim.Native.Nat.{ℕ, zero, suc, _+_, _-_, _<_, _≤_, max}
 use native.Mathlib.Omega.{arith}
 use native.Mathlib.Nat.{suc-add, add-zero, zero-add, sub-self}
@@ -6,27 +6,29 @@ use native.Mathlib.Numerals.{add-one}
 use mathlib.Core.Logic.{_⊎_, inl, inr, ⊎-elim, _↔_}
 use mathlib.Core.Path.{_≡_, refl, sym, ap, _∙_}
 use mathlib.Core.Bool.{Bool, true, false, cond}
-use mathlib.Core.List.{List, [], _∷_, _++_, map, append-assoc, append-nil, map-append, List·Memᴰ, List·Memᴰ·head, List·Memᴰ·tail, List·Memᴰ·not-nil, List·Memᴰ·cases-cons}
+use mathlib.Core.List.{List, [], _∷_, _++_, map, append-nil, map-append, List·Memᴰ, List·Memᴰ·head, List·Memᴰ·tail, List·Memᴰ·not-nil, List·Memᴰ·cases-cons}
 use lib.ListN.{length, take, drop, getD, set, length-append, length-drop, length-map}
-use lib.Seq.{drop-cons, set-at, getD-take, getD-drop}
+use lib.Seq.{getD-take, getD-drop}
+use lib.Dec.{ltb, eqb}
 use lib.IntN.{ℤ, pos}
 use mir.Syntax.{w64}
 use mir.Val.{SFits, ofZ, toZ}
 use mir.Facts.{toZ-pos}
 use borrow.Author.Tests.{lt-ltb, le-ltb, eq-eqb, ne-eqb}
 use Rattle.sequence_number.specs.Number.{top, natOf}
+use Rattle.sequence_number.specs.Outcome.{refused, done, refusal}
 use Rattle.sequence_number.specs.Lent.{over}
 use Rattle.sequence_number.proofs.Split.{split, split-eq}
+use Rattle.sequence_number.proofs.NumberLaws.{nat-top, nat-passed}
+use Rattle.sequence_number.proofs.RunLaws.{over-more}
 use Rattle.proxy_record.specs.Entries.{Entry, Rising}
 use Rattle.proxy_record.specs.State.{State, cap}
 use Rattle.proxy_record.specs.Column.{Placed}
 use Rattle.proxy_record.specs.Record.{stateOf, tracked, Good}
 use Rattle.proxy_record.specs.Rows.{blank, rank}
-use Rattle.proxy_record.proofs.EntriesLaws.{rising-any}
+use Rattle.proxy_record.proofs.RecordLaws.{good-rising}
 use Rattle.proxy_record.proofs.RowLaws.{number-word, place-row}
-use Rattle.proxy_core.proofs.NatLaws.{nat-top, nat-passed}
 use Rattle.proxy_core.proofs.StepLaws.{base-word}
-use Rattle.sequence_number.specs.Outcome.{refused, done}
 use Rattle.writer_proxy.specs.Queries.{has}
 use Rattle.writer_proxy.specs.Missing.{missing, missingOf, listed}
 use Rattle.writer_proxy.specs.Statements.{Ascending}
@@ -90,7 +92,7 @@ pub counted : (w : List ℕ) (lo hi a b : ℕ) → Good w → lo ≤ hi → Plac
     → (a ≤ b) × (b - a ≤ hi - lo) × (hi - lo - (b - a) ≡ length (missing lo (hi - lo) (tracked w)))
 counted w lo hi a b g h p q =
     let e : lo + (hi - lo) ≡ hi = omega arith in
-    let c = rw e at (missing-count top lo (hi - lo) (tracked w) (rising-any (stateOf w .base) top (tracked w) (g .ok .rising))) in
+    let c = rw e at (missing-count top lo (hi - lo) (tracked w) (good-rising w g)) in
     let m = missing-within lo (hi - lo) (tracked w) in
     let x = place-row w g (getD w 1 0) lo a (g .count) p in
     let y = place-row w g (getD w 1 0) hi b (g .count) q in
@@ -116,20 +118,12 @@ so-far-room lo n hi l h k =
     let b : lo + (n - lo) ≡ n = omega arith in
     rw (a, missing-append lo (n - lo) (1 + (hi - (n + 1))) l, b, missing-append n 1 (hi - (n + 1)) l) (simp length-append (omega arith))
 
-over-more : (m out : List ℤ) (w : ℕ) (z : ℤ) → length m ≡ w → w < length out → set (over m out) w z ≡ over (m ++ (z ∷ [])) out
-over-more m out w z e h =
-    let k : length (m ++ (z ∷ [])) ≡ suc w = simp length-append (omega arith) in
-    rw (k, e, drop-cons out w z h, set-at m (getD out w z) (drop (suc w) out) z w e, append-assoc)
-
 -- the word that the loop reads
 pub number-at : (w : List ℕ) (i : ℕ) → Good w → i < length (tracked w) → getD w (4 + i) 0 ≡ getD (tracked w) i blank .number
 number-at w i g h =
     sym (getD-drop 4 w i 0) ∙ sym (getD-take 257 (drop 4 w) i 0 (omega (arith, g .ok .few))) ∙ number-word cap i w (omega arith) g h
 
 module _ (w : List ℕ) (g : Good w) (lo hi : ℕ) (out₀ : List ℤ) where
-  any : Rising 0 top (tracked w)
-  any = rising-any (stateOf w .base) top (tracked w) (g .ok .rising)
-
   pub so-far-none : (i : ℕ) → lo ≤ hi → Placed lo (getD w 1 0) i (take 257 (drop 4 w)) → SoFar w lo hi out₀ out₀ i 0 lo
   so-far-none i h p =
       let e = missing-none lo (tracked w) in
@@ -152,7 +146,7 @@ module _ (w : List ℕ) (g : Good w) (lo hi : ℕ) (out₀ : List ℤ) where
           written = rw d (v .written);
         })
         (λ x. absurd (x .2 (omega (arith, v .place)) f))
-        (one-missing 0 top n (tracked w) any)
+        (one-missing 0 top n (tracked w) (good-rising w g))
 
     -- n is not tracked: there is room for it, and the loop writes it
     module _ (k : i < getD w 1 0 → getD w (4 + i) 0 ≡ n → ⊥) (r : length (missing lo (hi - lo) (tracked w)) ≤ length out₀) where
@@ -163,7 +157,7 @@ module _ (w : List ℕ) (g : Good w) (lo hi : ℕ) (out₀ : List ℤ) where
           let j : i < length (tracked w) = omega (arith, x .2, v .place) in
           absurd (k (omega (arith, g .count)) (number-at w i g j ∙ rw (v .place) (x .3))))
           (λ x. (x .0, x .1))
-          (one-missing 0 top n (tracked w) any)
+          (one-missing 0 top n (tracked w) (good-rising w g))
 
       pub so-far-room-left : m < length out₀
       so-far-room-left = omega (arith, so-far-room lo n hi (tracked w) (v .low) h, ap length (alone .0), v .many)
@@ -275,3 +269,23 @@ missing-ascends lo (suc k) l =
     split (has lo l)
     (λ e. rw e (ascending-weaken lo (missing (suc lo) k l) (missing-ascends (suc lo) k l)))
     (λ e. rw e (omega arith, missing-ascends (suc lo) k l))
+
+-- its refusals: the number that document 01 gives, and that a refused call writes nothing
+pub missing-number : (start end : ℤ) (s : State) (out : List ℤ)
+    → refusal (listed start end s out .answer) ≡ cond (eqb (natOf end) top) 4 (cond (ltb (length out) (length (missingOf start end s))) 3 0)
+unfolding listed
+missing-number start end s out =
+    split (eqb (natOf end) top)
+    (λ e. rw e)
+    (λ e. rw e (split (ltb (length out) (length (missingOf start end s))) (λ a. rw a) (λ a. rw a)))
+
+pub missing-refused-same : (start end : ℤ) (s : State) (out : List ℤ) (k : ℕ) → listed start end s out .answer ≡ refused k → listed start end s out .output ≡ out
+unfolding listed
+missing-refused-same start end s out k =
+    split (eqb (natOf end) top)
+    (λ e. rw e (λ h. refl))
+    (λ e.
+    rw e
+    (split (ltb (length out) (length (missingOf start end s)))
+    (λ a. rw a (λ h. refl))
+    (λ a. rw a (λ h. let z : _≡_ {A = ℕ} 0 1 = cc in absurd (omega arith)))))

@@ -32,7 +32,7 @@ use Rattle.writer_proxy.proofs.TrackedLaws.{has-tracked, not-tracked, m
 use Rattle.writer_proxy.proofs.ShownLaws.{look-put, look-kept, look-each-out, look-each-in}
 use Rattle.writer_proxy.proofs.MissingLaws.{listed-all, missing-has, missing-ascends}
 use Rattle.writer_proxy.proofs.CounterLaws.{next-wraps}
-use Rattle.writer_proxy.proofs.Refusals.{end-top, start-low, end-high, crossed}
+use Rattle.sequence_number.proofs.NumberLaws.{end-top, start-low, end-high, crossed}
 
 -- "their own rules hold, shown kept by every call": among them "Never more than 256 numbers are tracked after a call"
 pub set-up-keeps : Ok cap freshState

@@ -4,15 +4,15 @@ use native.Mathlib.Omega.{arith}
 use native.Mathlib.Nat.{le-of-suc-le-suc, not-suc-le-zero}
 use mathlib.Core.Logic.{_⊎_, inl, inr, ⊎-elim}
 use mathlib.Core.Path.{_≡_, refl, sym, ap, _∙_}
-use mathlib.Core.Bool.{Bool, true, false}
-use mathlib.Core.Option.{Option, none, some}
+use mathlib.Core.Bool.{Bool, true}
+use mathlib.Core.Option.{none, some}
 use mathlib.Core.List.{List, [], _∷_}
 use lib.ListN.{length, take, drop, getD}
 use lib.IntN.{ℤ, pos, negsuc}
 use borrow.Author.Tests.{lt-ltb, le-ltb, eq-eqb, ne-eqb}
 use Rattle.sequence_number.specs.Number.{top, natOf}
 use Rattle.sequence_number.proofs.Split.{split-lt, split-eq}
-use Rattle.proxy_record.specs.Entries.{Mark, Entry, Rising, below, NotAvailable, Received}
+use Rattle.proxy_record.specs.Entries.{Entry, Rising, below, NotAvailable, Received}
 use Rattle.proxy_record.specs.State.{State, Ok, cap}
 use Rattle.proxy_record.specs.Column.{Placed}
 use Rattle.proxy_record.specs.Record.{markOf, stateOf, tracked, Good}

@@ -4,6 +4,7 @@ use native.Mathlib.Omega.{arith}
 use mathlib.Core.Path.{_≡_, refl}
 use mathlib.Core.List.{List, _∷_, _++_, append-assoc}
 use lib.ListN.{length, take, drop, set}
+use lib.Dec.{ltb}
 use lib.Seq.{take-at}
 use borrow.Author.Tests.{lt-ltb, le-ltb}
 use Rattle.proxy_record.specs.State.{freshState}
@@ -12,6 +13,7 @@ use Rattle.proxy_record.proofs.ColumnLaws.{zeros-append}
 use Rattle.proxy_record.proofs.PartLaws.{laid-length}
 use Rattle.proxy_record.proofs.RecordLaws.{kept-of}
 use Rattle.sequence_number.specs.Outcome.{refused, done}
+use Rattle.sequence_number.proofs.Split.{split}
 use Rattle.proxy_core.specs.Calls.{unforced}
 use Rattle.proxy_core.proofs.CallsLaws.{ok-fresh}
 use Rattle.proxy_core.proofs.StepLaws.{good-of}
@@ -42,3 +44,10 @@ unfolding setUp
 set-up-good w h =
     rw (le-ltb (length w) size h, length-fresh, take-at (recordOf freshState) (drop size w) size length-fresh)
     (good-of (recordOf freshState) freshState ok-fresh refl)
+
+pub set-up-refused-same : (w : List ℕ) (k : ℕ) → setUp w .report ≡ refused k → setUp w .words ≡ w
+unfolding setUp
+set-up-refused-same w k =
+    split (ltb (length w) size)
+    (λ e. rw e (λ h. refl))
+    (λ e. rw e (λ h. let z : _≡_ {A = ℕ} 0 1 = cc in absurd (omega arith)))

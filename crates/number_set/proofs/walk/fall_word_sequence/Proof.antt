@@ -15,7 +15,7 @@ use mir.Facts.{toZ-ofZ}
 use borrow.Author.Needs.{needs}
 use Rattle.sequence_number.specs.Kind.{sequence}
 use Rattle.number_set.specs.Inner.{wordPositions}
-use Rattle.number_set.proofs.FitLaws.{sum-ok, sum-is}
+use Rattle.sequence_number.proofs.FitLaws.{sum-ok, sum-is}
 use Rattle.number_set.proofs.ClimbLaws.{Falls, falls-none, falls-yes, falls-no, falls-more, falls-room, falls-fits, falls-long, falls-done}
 use Rattle.number_set.proofs.walk.fall_word_sequence.Statement.{statement}
 use Rattle.number_set.proofs.walk.fall_word_sequence.Tie as tie

@@ -3,9 +3,8 @@
 use Prim.Native.Nat.{ℕ, _+_, _-_}
 use mathlib.Core.Path.{refl}
 use native.Mathlib.Omega.{arith}
-use borrow.Author.Needs.{needs}
 use Rattle.sequence_number.specs.Kind.{fragment}
-use Rattle.number_set.proofs.FitLaws.{fragment-below}
+use Rattle.sequence_number.proofs.KindLaws.{fragment-lawful}
 use Rattle.number_set.proofs.ClimbLaws.{Climbs, climbs-none, climbs-by, climbs-asks, climbs-more, climbs-many, climbs-done}
 use Rattle.number_set.proofs.walk.rise_rest_fragment.Statement.{statement}
 use Rattle.number_set.proofs.walk.rise_rest_fragment.Tie as tie
@@ -22,7 +21,7 @@ loop-holds c = climbs-none _ _ _ _ _ (omega arith)
 step-fragment-requires : tie.Need-step-fragment-requires Inv-loop μ-loop
 step-fragment-requires c κs =
     let s = c .before .before .before .before in
-    climbs-asks _ _ _ _ _ _ _ _ _ (c .before .before .loop .inv) (fragment .fits (s .args .base)) (fragment-below (s .args .base)) (s .pre .1 .0) (s .pre .1 .1) (omega arith)
+    climbs-asks _ _ _ _ _ _ _ _ _ (c .before .before .loop .inv) (fragment .fits (s .args .base)) (fragment-lawful .fits-below (s .args .base)) (s .pre .1 .0) (s .pre .1 .1) (omega arith)
 
 add-i : tie.Need-add-i Inv-loop μ-loop
 add-i c = omega (arith, c .before .before .before .before .before .loop .inv .here, c .before .before .before .before .before .loop .inv .few)

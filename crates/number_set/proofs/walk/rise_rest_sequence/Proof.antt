@@ -9,11 +9,10 @@ use lib.Seq.{sets}
 use mir.Syntax.{w64}
 use mir.Val.{ofZ, toZ}
 use mir.Facts.{toZ-ofZ}
-use borrow.Author.Needs.{needs}
 use Rattle.sequence_number.specs.Kind.{sequence}
 use Rattle.number_set.specs.Inner.{wordPositions}
 use Rattle.number_set.specs.Walk.{anyPast}
-use Rattle.number_set.proofs.FitLaws.{fits-below}
+use Rattle.sequence_number.proofs.KindLaws.{sequence-lawful}
 use Rattle.number_set.proofs.ClimbLaws.{Climbs, climbs-none, climbs-by, climbs-asks, climbs-more, climbs-many, climbs-done}
 use Rattle.number_set.proofs.walk.rise_rest_sequence.Statement.{statement}
 use Rattle.number_set.proofs.walk.rise_rest_sequence.Tie as tie
@@ -31,7 +30,7 @@ step-sequence-requires : tie.Need-step-sequence-requires Inv-loop μ-loop
 step-sequence-requires c κs =
     let s = c .before .before .before in
     let f = ap (λ (b : ℤ). anyPast (λ (k : ℕ). sequence .fits b (s .args .from + k)) (wordPositions (s .args .word))) (toZ-ofZ {w = w64} (s .fits .base)) ∙ s .pre .1 .0 in
-    climbs-asks _ _ _ _ _ _ _ _ _ (c .before .before .loop .inv) (sequence .fits (toZ w64 (ofZ w64 (s .args .base)))) (fits-below (toZ w64 (ofZ w64 (s .args .base)))) f (s .pre .1 .1) (omega arith)
+    climbs-asks _ _ _ _ _ _ _ _ _ (c .before .before .loop .inv) (sequence .fits (toZ w64 (ofZ w64 (s .args .base)))) (sequence-lawful .fits-below (toZ w64 (ofZ w64 (s .args .base)))) f (s .pre .1 .1) (omega arith)
 
 add-i : tie.Need-add-i Inv-loop μ-loop
 add-i c = omega (arith, c .before .before .before .before .loop .inv .here, c .before .before .before .before .loop .inv .few)

@@ -5,10 +5,9 @@ use mathlib.Core.Path.{_≡_, refl, ap, _∙_}
 use mathlib.Core.List.{List}
 use native.Mathlib.Omega.{arith}
 use lib.ListN.{length}
-use lib.Seq.{sets, length-sets}
-use borrow.Author.Needs.{needs}
+use lib.Seq.{length-sets}
 use Rattle.sequence_number.specs.Kind.{fragment}
-use Rattle.number_set.proofs.FitLaws.{fragment-below}
+use Rattle.sequence_number.proofs.KindLaws.{fragment-lawful}
 use Rattle.number_set.proofs.ClimbLaws.{Climbs, climbs-none, climbs-by, climbs-asks, climbs-more, climbs-past, climbs-left, climbs-rest, left-four, shift-more}
 use Rattle.number_set.proofs.walk.rise_word_fragment.Statement.{statement}
 use Rattle.number_set.proofs.walk.rise_word_fragment.Tie as tie
@@ -66,7 +65,7 @@ loop-holds c = climbs-none _ _ _ _ _ (omega arith)
 step-fragment-requires : tie.Need-step-fragment-requires Inv-loop μ-loop
 step-fragment-requires c κs =
     let s = c .before .before .before .before in
-    climbs-asks _ _ _ _ _ _ _ _ _ (c .before .before .loop .inv) (fragment .fits (s .args .base)) (fragment-below (s .args .base)) (s .pre .1 .0) (s .pre .1 .1) (left (c .before) .0)
+    climbs-asks _ _ _ _ _ _ _ _ _ (c .before .before .loop .inv) (fragment .fits (s .args .base)) (fragment-lawful .fits-below (s .args .base)) (s .pre .1 .0) (s .pre .1 .1) (left (c .before) .0)
 
 add-step-fragment : tie.Need-add-step-fragment Inv-loop μ-loop
 add-step-fragment c = omega (arith, c .before .before .before .before .before .loop .inv .here, c .before .before .before .before .before .loop .inv .few)
@@ -74,7 +73,7 @@ add-step-fragment c = omega (arith, c .before .before .before .before .before .l
 step-fragment-requires-2 : tie.Need-step-fragment-requires-2 Inv-loop μ-loop
 step-fragment-requires-2 c κs =
     let s = c .before .before .before .before .before .before .before .before in
-    climbs-asks _ _ _ _ _ _ _ _ _ (one (c .before)) (fragment .fits (s .args .base)) (fragment-below (s .args .base)) (s .pre .1 .0) (s .pre .1 .1) (left (c .before .before .before .before .before) .1)
+    climbs-asks _ _ _ _ _ _ _ _ _ (one (c .before)) (fragment .fits (s .args .base)) (fragment-lawful .fits-below (s .args .base)) (s .pre .1 .0) (s .pre .1 .1) (left (c .before .before .before .before .before) .1)
 
 add-step-fragment-2 : tie.Need-add-step-fragment-2 Inv-loop μ-loop
 add-step-fragment-2 c = omega (arith, c .before .before .before .before .before .before .before .before .before .loop .inv .here, c .before .before .before .before .before .before .before .before .before .loop .inv .few)
@@ -82,7 +81,7 @@ add-step-fragment-2 c = omega (arith, c .before .before .before .before .before 
 step-fragment-requires-3 : tie.Need-step-fragment-requires-3 Inv-loop μ-loop
 step-fragment-requires-3 c κs =
     let s = c .before .before .before .before .before .before .before .before .before .before .before .before in
-    climbs-asks _ _ _ _ _ _ _ _ _ (two (c .before)) (fragment .fits (s .args .base)) (fragment-below (s .args .base)) (s .pre .1 .0) (s .pre .1 .1) (left (c .before .before .before .before .before .before .before .before .before) .2)
+    climbs-asks _ _ _ _ _ _ _ _ _ (two (c .before)) (fragment .fits (s .args .base)) (fragment-lawful .fits-below (s .args .base)) (s .pre .1 .0) (s .pre .1 .1) (left (c .before .before .before .before .before .before .before .before .before) .2)
 
 add-step-fragment-3 : tie.Need-add-step-fragment-3 Inv-loop μ-loop
 add-step-fragment-3 c = omega (arith, c .before .before .before .before .before .before .before .before .before .before .before .before .before .loop .inv .here, c .before .before .before .before .before .before .before .before .before .before .before .before .before .loop .inv .few)
@@ -90,7 +89,7 @@ add-step-fragment-3 c = omega (arith, c .before .before .before .before .before 
 step-fragment-requires-4 : tie.Need-step-fragment-requires-4 Inv-loop μ-loop
 step-fragment-requires-4 c κs =
     let s = c .before .before .before .before .before .before .before .before .before .before .before .before .before .before .before .before in
-    climbs-asks _ _ _ _ _ _ _ _ _ (three (c .before)) (fragment .fits (s .args .base)) (fragment-below (s .args .base)) (s .pre .1 .0) (s .pre .1 .1) (left (c .before .before .before .before .before .before .before .before .before .before .before .before .before) .3)
+    climbs-asks _ _ _ _ _ _ _ _ _ (three (c .before)) (fragment .fits (s .args .base)) (fragment-lawful .fits-below (s .args .base)) (s .pre .1 .0) (s .pre .1 .1) (left (c .before .before .before .before .before .before .before .before .before .before .before .before .before) .3)
 
 add-i : tie.Need-add-i Inv-loop μ-loop
 add-i c = omega (arith, c .before .before .before .before .before .before .before .before .before .before .before .before .before .before .before .before .before .loop .inv .here, c .before .before .before .before .before .before .before .before .before .before .before .before .before .before .before .before .before .loop .inv .few)

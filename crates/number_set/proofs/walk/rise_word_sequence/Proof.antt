@@ -11,11 +11,10 @@ use lib.IntN.{ℤ, pos, _+ℤ_}
 use mir.Syntax.{w64}
 use mir.Val.{ofZ, toZ}
 use mir.Facts.{toZ-ofZ}
-use borrow.Author.Needs.{needs}
 use Rattle.sequence_number.specs.Kind.{sequence}
 use Rattle.number_set.specs.Inner.{wordPositions}
 use Rattle.number_set.specs.Walk.{anyPast}
-use Rattle.number_set.proofs.FitLaws.{fits-below}
+use Rattle.sequence_number.proofs.KindLaws.{sequence-lawful}
 use Rattle.number_set.proofs.ClimbLaws.{Climbs, climbs-none, climbs-by, climbs-asks, climbs-more, climbs-past, climbs-left, climbs-rest, left-four, shift-more}
 use Rattle.number_set.proofs.walk.rise_word_sequence.Statement.{statement}
 use Rattle.number_set.proofs.walk.rise_word_sequence.Tie as tie
@@ -77,7 +76,7 @@ fits-all s = ap (λ (b : ℤ). anyPast (λ (k : ℕ). sequence .fits b (s .args 
 step-sequence-requires : tie.Need-step-sequence-requires Inv-loop μ-loop
 step-sequence-requires c κs =
     let s = c .before .before .before in
-    climbs-asks _ _ _ _ _ _ _ _ _ (c .before .before .loop .inv) (sequence .fits (toZ w64 (ofZ w64 (s .args .base)))) (fits-below (toZ w64 (ofZ w64 (s .args .base)))) (fits-all s) (s .pre .1 .1) (left (c .before) .0)
+    climbs-asks _ _ _ _ _ _ _ _ _ (c .before .before .loop .inv) (sequence .fits (toZ w64 (ofZ w64 (s .args .base)))) (sequence-lawful .fits-below (toZ w64 (ofZ w64 (s .args .base)))) (fits-all s) (s .pre .1 .1) (left (c .before) .0)
 
 add-step-sequence : tie.Need-add-step-sequence Inv-loop μ-loop
 add-step-sequence c = omega (arith, c .before .before .before .before .loop .inv .here, c .before .before .before .before .loop .inv .few)
@@ -85,7 +84,7 @@ add-step-sequence c = omega (arith, c .before .before .before .before .loop .inv
 step-sequence-requires-2 : tie.Need-step-sequence-requires-2 Inv-loop μ-loop
 step-sequence-requires-2 c κs =
     let s = c .before .before .before .before .before .before in
-    climbs-asks _ _ _ _ _ _ _ _ _ (one (c .before)) (sequence .fits (toZ w64 (ofZ w64 (s .args .base)))) (fits-below (toZ w64 (ofZ w64 (s .args .base)))) (fits-all s) (s .pre .1 .1) (left (c .before .before .before .before) .1)
+    climbs-asks _ _ _ _ _ _ _ _ _ (one (c .before)) (sequence .fits (toZ w64 (ofZ w64 (s .args .base)))) (sequence-lawful .fits-below (toZ w64 (ofZ w64 (s .args .base)))) (fits-all s) (s .pre .1 .1) (left (c .before .before .before .before) .1)
 
 add-step-sequence-2 : tie.Need-add-step-sequence-2 Inv-loop μ-loop
 add-step-sequence-2 c = omega (arith, c .before .before .before .before .before .before .before .loop .inv .here, c .before .before .before .before .before .before .before .loop .inv .few)
@@ -93,7 +92,7 @@ add-step-sequence-2 c = omega (arith, c .before .before .before .before .before 
 step-sequence-requires-3 : tie.Need-step-sequence-requires-3 Inv-loop μ-loop
 step-sequence-requires-3 c κs =
     let s = c .before .before .before .before .before .before .before .before .before in
-    climbs-asks _ _ _ _ _ _ _ _ _ (two (c .before)) (sequence .fits (toZ w64 (ofZ w64 (s .args .base)))) (fits-below (toZ w64 (ofZ w64 (s .args .base)))) (fits-all s) (s .pre .1 .1) (left (c .before .before .before .before .before .before .before) .2)
+    climbs-asks _ _ _ _ _ _ _ _ _ (two (c .before)) (sequence .fits (toZ w64 (ofZ w64 (s .args .base)))) (sequence-lawful .fits-below (toZ w64 (ofZ w64 (s .args .base)))) (fits-all s) (s .pre .1 .1) (left (c .before .before .before .before .before .before .before) .2)
 
 add-step-sequence-3 : tie.Need-add-step-sequence-3 Inv-loop μ-loop
 add-step-sequence-3 c = omega (arith, c .before .before .before .before .before .before .before .before .before .before .loop .inv .here, c .before .before .before .before .before .before .before .before .before .before .loop .inv .few)
@@ -101,7 +100,7 @@ add-step-sequence-3 c = omega (arith, c .before .before .before .before .before 
 step-sequence-requires-4 : tie.Need-step-sequence-requires-4 Inv-loop μ-loop
 step-sequence-requires-4 c κs =
     let s = c .before .before .before .before .before .before .before .before .before .before .before .before in
-    climbs-asks _ _ _ _ _ _ _ _ _ (three (c .before)) (sequence .fits (toZ w64 (ofZ w64 (s .args .base)))) (fits-below (toZ w64 (ofZ w64 (s .args .base)))) (fits-all s) (s .pre .1 .1) (left (c .before .before .before .before .before .before .before .before .before .before) .3)
+    climbs-asks _ _ _ _ _ _ _ _ _ (three (c .before)) (sequence .fits (toZ w64 (ofZ w64 (s .args .base)))) (sequence-lawful .fits-below (toZ w64 (ofZ w64 (s .args .base)))) (fits-all s) (s .pre .1 .1) (left (c .before .before .before .before .before .before .before .before .before .before) .3)
 
 add-i : tie.Need-add-i Inv-loop μ-loop
 add-i c = omega (arith, c .before .before .before .before .before .before .before .before .before .before .before .before .before .loop .inv .here, c .before .before .before .before .before .before .before .before .before .before .before .before .before .loop .inv .few)

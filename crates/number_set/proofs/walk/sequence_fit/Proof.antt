@@ -4,7 +4,7 @@ use mathlib.Core.Path.{_≡_, ap, _∙_}
 use mir.Syntax.{w64}
 use mir.Val.{ofZ}
 use mir.Facts.{toZ-ofZ}
-use Rattle.number_set.proofs.FitLaws.{agree-low, agree-mid, agree-neg}
+use Rattle.sequence_number.proofs.FitLaws.{agree-low, agree-mid, agree-neg}
 use borrow.Author.Needs.{needs}
 use Rattle.number_set.proofs.walk.sequence_fit.Statement.{statement}
 use Rattle.number_set.proofs.walk.sequence_fit.Tie as tie

@@ -8,7 +8,7 @@ use mir.Syntax.{w64}
 use mir.Facts.{toZ-ofZ}
 use borrow.Author.Needs.{needs}
 use Rattle.sequence_number.specs.Kind.{sequence}
-use Rattle.number_set.proofs.FitLaws.{sum-ok, sum-is}
+use Rattle.sequence_number.proofs.FitLaws.{sum-ok, sum-is}
 use Rattle.number_set.proofs.walk.step_sequence.Statement.{statement}
 use Rattle.number_set.proofs.walk.step_sequence.Tie as tie
 

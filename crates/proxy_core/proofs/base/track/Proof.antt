@@ -1,5 +1,4 @@
 -- `proxy_core::base::track` meets its contract: 257 are tracked at most after the put, and the base steps over its own number. Assumes nothing.
-use native.Mathlib.Omega.{arith}
 use borrow.Author.Needs.{needs}
 use Rattle.proxy_record.specs.Record.{entryOf}
 use Rattle.proxy_core.proofs.StepLaws.{put-good, track-above, track-base}

@@ -1,6 +1,6 @@
 -- `receiver::sets::drucenal_read_sequence_number_set` meets its contract: the answer from below, handed on.
 -- Assumes nothing.
-use Rattle.receiver.proofs.SetAnswers.{sequence-read-number}
+use Rattle.number_set.proofs.SetAnswers.{sequence-read-number}
 use Rattle.receiver.proofs.ExportLaws.{struct-refused, struct-done}
 use Rattle.receiver.specs.Exports.{orderOf, takenOf}
 use Rattle.number_set.proofs.SetWireLaws.{read-numbered}

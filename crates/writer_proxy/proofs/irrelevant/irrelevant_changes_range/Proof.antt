@@ -1,11 +1,12 @@
 -- `writer_proxy::irrelevant::irrelevant_changes_range` meets its contract: refused, skipped, or put, each a case of `irrelevantRange`. Assumes nothing.
 use native.Mathlib.Omega.{arith}
 use mathlib.Core.Path.{_≡_}
-use mathlib.Core.Bool.{true, false}
+use mathlib.Core.Bool.{false}
 use lib.Signed.{ltZ}
 use borrow.Author.Needs.{needs}
 use Rattle.sequence_number.specs.Number.{natOf}
-use Rattle.proxy_core.proofs.NatLaws.{nat-top, nat-passed, order-passed}
+use Rattle.sequence_number.proofs.NumberLaws.{nat-top, nat-passed}
+use Rattle.sequence_number.proofs.SignedLaws.{test-back}
 use Rattle.proxy_core.proofs.RangeStepLaws.{range-refused, range-keeps, range-order, range-skips, range-above-base, range-puts}
 use Rattle.writer_proxy.proofs.irrelevant.irrelevant_changes_range.Statement.{statement}
 use Rattle.writer_proxy.proofs.irrelevant.irrelevant_changes_range.Tie as tie
@@ -16,7 +17,7 @@ ends : (c : tie.After-natural2)
     (ltZ (s .args .until) (s .args .from) ≡ false) × (c .before .natural .result ≡ natOf (s .args .from)) × (c .natural2 .result ≡ natOf (s .args .until))
 ends c =
     let s = c .before .before .before .before in (
-      order-passed (s .args .from) (s .args .until) false (s .fits .from) (s .fits .until) (c .before .before .if1 .left),
+      test-back (s .args .until) (s .args .from) (s .fits .until .sfits) (s .fits .from .sfits) (c .before .before .if1 .left),
       nat-passed (s .args .from) _ (s .fits .from) (c .before .natural .ensures),
       nat-passed (s .args .until) _ (s .fits .until) (c .natural2 .ensures),
     )
@@ -25,7 +26,7 @@ returns : tie.Need-returns
 returns c =
     let s = c .before .before in
     let a = s .args in
-    (range-refused (a .from) (a .until) (s .fits .until) (a .t .now) (s .pre) (order-passed (a .from) (a .until) true (s .fits .from) (s .fits .until) (c .if1 .taken)), s .pre)
+    (range-refused (a .from) (a .until) (s .fits .until) (a .t .now) (s .pre) (test-back (a .until) (a .from) (s .fits .until .sfits) (s .fits .from .sfits) (c .if1 .taken)), s .pre)
 
 natural-requires : tie.Need-natural-requires
 natural-requires c κs = search needs

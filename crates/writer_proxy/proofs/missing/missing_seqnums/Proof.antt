@@ -6,7 +6,7 @@ use lib.ListN.{length}
 use borrow.Author.Needs.{needs}
 use Rattle.sequence_number.specs.Number.{top, natOf}
 use Rattle.proxy_record.specs.Record.{stateOf, tracked}
-use Rattle.proxy_core.proofs.NatLaws.{nat-top, nat-passed}
+use Rattle.sequence_number.proofs.NumberLaws.{nat-top, nat-passed}
 use Rattle.writer_proxy.specs.Missing.{missing, missingOf}
 use Rattle.writer_proxy.proofs.MissingLaws.{listed-last, listed-short, listed-all, end-open, ends-order, ends-list}
 use Rattle.writer_proxy.proofs.missing.missing_seqnums.Statement.{statement}

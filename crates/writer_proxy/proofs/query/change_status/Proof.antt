@@ -4,7 +4,7 @@ use mathlib.Core.Path.{ap, _∙_}
 use borrow.Author.Needs.{needs}
 use Rattle.proxy_record.specs.State.{cap}
 use Rattle.proxy_record.specs.Record.{stateOf, tracked}
-use Rattle.proxy_core.proofs.NatLaws.{nat-passed}
+use Rattle.sequence_number.proofs.NumberLaws.{nat-passed}
 use Rattle.writer_proxy.specs.Queries.{look}
 use Rattle.writer_proxy.proofs.QueryLaws.{status-nat}
 use Rattle.writer_proxy.proofs.query.change_status.Statement.{statement}

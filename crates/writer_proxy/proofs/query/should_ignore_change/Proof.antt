@@ -5,7 +5,7 @@ use mathlib.Core.Bool.{Bool, true, false}
 use borrow.Author.Needs.{needs}
 use Rattle.proxy_record.specs.State.{cap}
 use Rattle.proxy_record.specs.Record.{stateOf}
-use Rattle.proxy_core.proofs.NatLaws.{nat-passed}
+use Rattle.sequence_number.proofs.NumberLaws.{nat-passed}
 use Rattle.proxy_core.proofs.StepLaws.{base-word}
 use Rattle.writer_proxy.specs.Queries.{given, ignored, shown}
 use Rattle.writer_proxy.specs.declared.query.Status.{Status}

@@ -6,7 +6,7 @@ use lib.Dec.{ltb}
 use borrow.Author.Needs.{needs}
 use Rattle.sequence_number.specs.Kind.{fragment}
 use Rattle.number_set.specs.NumberSet.{fragmentSet}
-use Rattle.number_set.proofs.FitLaws.{fragment-agree}
+use Rattle.sequence_number.proofs.FitLaws.{fragment-agree}
 use Rattle.number_set.proofs.WalkLaws.{walk-long, walk-refused, walk-room, walk-up, walk-down}
 use Rattle.number_set.proofs.set.FragmentNumberSet.iter.Statement.{statement}
 use Rattle.number_set.proofs.set.FragmentNumberSet.iter.Tie as tie
