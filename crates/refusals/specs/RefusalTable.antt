@@ -216,7 +216,7 @@ missingRows start end s out = row 4 (end ≡ pos (2 ^ 63 - 1)) ∷ shorter out (
 
 -- `all_ackable_before`, `last_change`, `change_status`, `should_ignore_change` and the acknack counter have no refusal.
 
--- ==== The assembler (crate fragment_assembler): f is `unit`, p is `room`; a fragment has its own size, the data size D, start k and n fragments
+-- ==== The assembler (crate fragment_assembler): f is `fragmentSize`, p is `placeSize`; a fragment has its own size, the data size D, start k and n fragments
 
 -- "setting up: f is 0, or p is 0 or above 65,536 (added)", then the record's words
 abbrev pub setUpRows : ℕ → Bool → ℕ → List ℕ → List Row
@@ -234,22 +234,22 @@ sampleSize a number D = cond (inAssembly (a .places) (numberOf number)) (at (a .
 abbrev pub fragmentRows : Assembler → List ℕ → ℤ → ℕ → ℕ → ℕ → ℕ → List Row
 fragmentRows a area number size D k n =
     -- "area shorter than 129*p (added)"
-    row 13 (length area < 129 * a .room)
+    row 13 (length area < 129 * a .placeSize)
     ∷ notTaken number
     -- "fragment's size differs from f (added)"
-    ∷ row 6 (size ≡ a .unit → ⊥)
+    ∷ row 6 (size ≡ a .fragmentSize → ⊥)
     -- "opening, f > D"
-    ∷ row 7 (Opening a number × (D < a .unit))
+    ∷ row 7 (Opening a number × (D < a .fragmentSize))
     -- "opening, D > p (added)"
-    ∷ row 8 (Opening a number × (a .room < D))
+    ∷ row 8 (Opening a number × (a .placeSize < D))
     -- "opening, F > 256 (added)"
-    ∷ row 9 (Opening a number × (256 < fragments D (a .unit)))
+    ∷ row 9 (Opening a number × (256 < fragments D (a .fragmentSize)))
     -- "run of 0 fragments"
     ∷ row 10 (n ≡ 0)
     -- "start 0"
     ∷ row 11 (k ≡ 0)
     -- "k - 1 + n > F"
-    ∷ row 12 (fragments (sampleSize a number D) (a .unit) < k - 1 + n)
+    ∷ row 12 (fragments (sampleSize a number D) (a .fragmentSize) < k - 1 + n)
     ∷ []
 
 -- `view`, `is_partially_received` and `in_assembly` have no refusal.
