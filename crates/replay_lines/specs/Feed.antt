@@ -70,7 +70,7 @@ pub record Tally : Type 0 where
 abbrev pub tallyOf : ℕ → ℕ → ℕ → Tally
 tallyOf taken count wrote = record { taken = taken; count = count; wrote = wrote }
 
--- this paper's number and values for each answer
+-- the paper's number and values for each answer
 abbrev pub fedOf : Fed → Outcome Tally
 fedOf (Refused n) = refused n
 fedOf (Took taken count wrote) = done (tallyOf taken count wrote)

@@ -13,7 +13,7 @@ use Rattle.replay_lines.specs.declared.frame.Frame.the-variants.{Receive
 use Rattle.replay_lines.specs.declared.frame.Parsed.{Parsed}
 use Rattle.replay_lines.specs.declared.frame.Parsed.the-variants.{Malformed, Reads}
 
--- this paper's number and values for each answer: 1 is "a replay line is malformed"
+-- the paper's number and values for each answer: 1 is "a replay line is malformed"
 abbrev pub readOf : Parsed → Outcome Frame
 readOf Malformed = refused 1
 readOf (Reads frame) = done frame
