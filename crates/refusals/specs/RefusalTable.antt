@@ -59,15 +59,14 @@ use Rattle.fragment_assembler.specs.declared.Start.{Start}
 use Rattle.fragment_assembler.specs.declared.Answer.{Answer}
 use Rattle.fragment_assembler.specs.declared.Cleaned.{Cleaned}
 use Rattle.fragment_assembler.specs.declared.Listing as assembler-listing
-use Rattle.replay_lines.specs.Frame.{parsed}
+use Rattle.replay_lines.specs.Frame.{readOf, parsed}
 use Rattle.replay_lines.specs.Decimal.{lineOf}
 use Rattle.replay_lines.specs.Answer.{answered, Answered}
-use Rattle.replay_lines.specs.Feed.{Run, took, says, fed, runOf, Fed-to}
+use Rattle.replay_lines.specs.Feed.{Run, took, says, fedOf, fed, runOf, Fed-to}
+use Rattle.replay_lines.specs.declared.frame.Frame.{Frame}
 use Rattle.replay_lines.specs.declared.frame.Frame.the-variants.{Received, Range, Missing}
 use Rattle.replay_lines.specs.declared.frame.Parsed.{Parsed}
-use Rattle.replay_lines.specs.declared.frame.Parsed.the-variants.{Malformed, Reads}
 use Rattle.replay_lines.specs.declared.feed.Fed.{Fed}
-use Rattle.replay_lines.specs.declared.feed.Fed.the-variants as Fed
 
 -- ==== A row, and what the table says of a call
 
@@ -256,15 +255,6 @@ fragmentRows a area number size D k n =
 
 -- ==== Replay lines (crate replay_lines)
 
--- what the answers say
-abbrev pub readAs : Parsed → Verdict
-readAs Malformed = refused 1
-readAs (Reads frame) = accepted
-
-abbrev pub fedAs : Fed → Verdict
-fedAs (Fed.Refused n) = refused n
-fedAs (Fed.Took taken count wrote) = accepted
-
 -- a hexadecimal digit "of either case": `0` to `9`, `A` to `F`, `a` to `f`
 abbrev pub Digit : ℕ → Type 0
 Digit c = ((48 ≤ c) × (c ≤ 57)) ⊎ ((65 ≤ c) × (c ≤ 70)) ⊎ ((97 ≤ c) × (c ≤ 102))
@@ -281,11 +271,11 @@ abbrev pub malformed : List ℕ → Row
 malformed line = row 1 (WellFormed line → ⊥)
 
 -- the rows of the call that a line asks for: "01 received (number, time), 02 range (a, b), 03 missing (start, end; room 256)"
-abbrev pub frameRows : Parsed → State → List ℤ → List Row
-frameRows Malformed s list = []
-frameRows (Reads (Received number time)) s list = notTaken number ∷ []
-frameRows (Reads (Range a b)) s list = rangeRows a b
-frameRows (Reads (Missing start end)) s list = missingRows start end s (take 256 list)
+abbrev pub frameRows : Outcome Frame → State → List ℤ → List Row
+frameRows (outcome.refused n) s list = []
+frameRows (outcome.done (Received number time)) s list = notTaken number ∷ []
+frameRows (outcome.done (Range a b)) s list = rangeRows a b
+frameRows (outcome.done (Missing start end)) s list = missingRows start end s (take 256 list)
 
 abbrev pub lineRows : List ℕ → State → List ℤ → List Row
 lineRows line s list = malformed line ∷ frameRows (parsed line) s list
@@ -298,7 +288,8 @@ pub record AnswerLine (rows : List Row) (text : List ℕ) (Untouched : Type 0) :
   pub line : text ≡ lineOf kind (number ∷ rest)
   pub refuses : Refuses (numbered number) rows Untouched
 
--- 3, of the call itself: the list is below 256 entries, or the buffer might not hold an answer, which has at most 5,148 bytes
+-- 3, by conditions of the call itself and not by the table's row (docs/PROMISES.md, Exceptions): the list is below 256 entries,
+-- or the buffer might not hold an answer, which has at most 5,148 bytes
 abbrev pub answerRows : List ℤ → List ℕ → List Row
 answerRows list out = row 3 (length list < 256) ∷ row 3 (length out < 5148) ∷ []
 
@@ -367,7 +358,7 @@ pub record RefusalTable : Type 1 where
   pub missing-frags-for : (w : List ℕ) (number : ℤ) (out after : List ℕ) (r : assembler-listing.Listing) → assembler-rules.Good w → Misses w (numberOf number) out r after
       → Refuses (verdict (listedOf r)) (shorter out (missing (assembler.stateOf w) (numberOf number)) ∷ []) (after ≡ out)
   -- replay_lines: the proxy's record w, the lent list and the buffer; a line stands without its line feed
-  pub parse : (line : List ℕ) (r : Parsed) → r ≡ parsed line → Exactly (readAs r) (malformed line ∷ [])
+  pub parse : (line : List ℕ) (r : Parsed) → readOf r ≡ parsed line → Exactly (verdict (readOf r)) (malformed line ∷ [])
   pub answer-line : (w w′ line : List ℕ) (list list′ : List ℤ) (out out′ : List ℕ) (r : Written) → Good w
       → Answered r w′ list′ out′ (answered w line list out) → Refuses (verdict (wrote r)) (answerRows list out) ((w′ ≡ w) × (list′ ≡ list) × (out′ ≡ out))
   pub answer-line-says : (w w′ line : List ℕ) (list list′ : List ℤ) (out out′ : List ℕ) (r : Written) → Good w
@@ -376,7 +367,7 @@ pub record RefusalTable : Type 1 where
       × AnswerLine (lineRows line (stateOf w) list) text ((w′ ≡ w) × (list′ ≡ list))
   pub feed : (w w′ : List ℕ) (list list′ : List ℤ) (held held′ : List ℕ) (count : ℕ) (piece out out′ : List ℕ) (r : Fed) → Good w
       → Fed-to r w′ list′ held′ out′ (fed (runOf w list held count) piece out)
-      → Refuses (fedAs r) (feedRows list held count out) ((w′ ≡ w) × (list′ ≡ list) × (held′ ≡ held) × (out′ ≡ out))
+      → Refuses (verdict (fedOf r)) (feedRows list held count out) ((w′ ≡ w) × (list′ ≡ list) × (held′ ≡ held) × (out′ ≡ out))
   -- what a feed says at a line feed, 10, where x is lent and held
   pub feed-says : (x : Run) → Good (x .words)
       → AnswerLine (lineRows (take (x .count) (x .held)) (stateOf (x .words)) (x .list)) (says 10 x) ((took 10 x .words ≡ x .words) × (took 10 x .list ≡ x .list))
