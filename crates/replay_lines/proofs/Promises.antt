@@ -10,10 +10,9 @@ use lib.IntN.{ℤ}
 use borrow.Author.Tests.{lt-ltb}
 use Rattle.sequence_number.specs.Outcome.{refused, done}
 use Rattle.sequence_number.proofs.Split.{split-lt}
-use Rattle.proxy_record.specs.State.{State, Ok}
+use Rattle.proxy_record.specs.State.{State, cap, Ok}
 use Rattle.proxy_record.specs.Record.{recordOf, stateOf}
 use Rattle.proxy_record.proofs.RecordLaws.{good-is}
-use Rattle.proxy_core.specs.Calls.{cap}
 use Rattle.writer_proxy.proofs.Promises.{record-reads-back}
 use Rattle.replay_lines.specs.Frame.{parsed}
 use Rattle.replay_lines.specs.Answer.{Step, textOf, stepOf}

@@ -14,8 +14,7 @@ use borrow.Author.Tests.{ltb-false, eqb-true, eqb-false}
 use Rattle.sequence_number.specs.Number.{top, natOf}
 use Rattle.sequence_number.specs.Outcome.{Outcome, refused, done}
 use Rattle.sequence_number.proofs.Split.{split}
-use Rattle.proxy_record.specs.State.{State, Ok}
-use Rattle.proxy_core.specs.Calls.{cap}
+use Rattle.proxy_record.specs.State.{State, cap, Ok}
 use Rattle.writer_proxy.specs.Missing.{missingOf, listed}
 use Rattle.writer_proxy.proofs.Promises.{received-keeps-rules, range-keeps-rules}
 use Rattle.replay_lines.specs.Decimal.{lineOf}
