@@ -188,6 +188,9 @@ uint32_t drucenal_assembler_missing_frags_for(const uint64_t *words, size_t leng
 /* Whether the number is in assembly. */
 bool drucenal_assembler_is_partially_received(const uint64_t *words, size_t length, int64_t number);
 
+/* How many numbers are in assembly: at most 128. */
+size_t drucenal_assembler_in_assembly(const uint64_t *words, size_t length);
+
 #ifdef __cplusplus
 }
 #endif

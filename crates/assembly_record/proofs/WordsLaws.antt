@@ -224,5 +224,5 @@ bit-back false = refl
 pub back : (a : Assembler) → length (a .places) ≡ 129 → ((i : ℕ) → length (at (a .places) i .marks) ≡ 4) → stateOf (recordOf a) ≡ a
 unfolding recordOf placesOf
 back a e h =
-    ap (λ (b : Bool). record { unit = a .unit; room = a .room; reliable = b; places = rowsOf 129 (tableOf (a .places)) }) (bit-back (a .reliable))
+    ap (λ (b : Bool). record { fragmentSize = a .fragmentSize; placeSize = a .placeSize; reliable = b; places = rowsOf 129 (tableOf (a .places)) }) (bit-back (a .reliable))
     ∙ ap (withPlaces a) (rows-back 129 (a .places) e h)

@@ -34,5 +34,5 @@ pub record Counts (w : List ℕ) (seat : ℕ) : Type 0 where
   pub long : length w ≡ 906
   pub within : seat < 129
   pub some : 0 < getD w 0 0
-  pub unit : getD w 0 0 < 65536
+  pub fragmentSize : getD w 0 0 < 65536
   pub few : fragments (at (placesOf w) seat .size) (getD w 0 0) ≤ 256

@@ -14,8 +14,8 @@ pub record Place : Type 0 where
 
 -- "One assembler serves one writer, with fixed fragment size f, mode reliable or best effort, and place size p": f, p, the mode and the 129 places
 pub record Assembler : Type 0 where
-  pub unit : ℕ
-  pub room : ℕ
+  pub fragmentSize : ℕ
+  pub placeSize : ℕ
   pub reliable : Bool
   pub places : List Place
 
@@ -29,4 +29,4 @@ at ps i = getD ps i free
 
 -- the same assembler with other places
 abbrev pub withPlaces : Assembler → List Place → Assembler
-withPlaces a ps = record { unit = a .unit; room = a .room; reliable = a .reliable; places = ps }
+withPlaces a ps = record { fragmentSize = a .fragmentSize; placeSize = a .placeSize; reliable = a .reliable; places = ps }

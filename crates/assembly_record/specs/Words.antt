@@ -20,7 +20,7 @@ abbrev pub bit : Bool → ℕ
 bit b = cond b 1 0
 
 unfoldable pub recordOf : Assembler → List ℕ
-recordOf a = a .unit ∷ (a .room ∷ (bit (a .reliable) ∷ tableOf (a .places)))
+recordOf a = a .fragmentSize ∷ (a .placeSize ∷ (bit (a .reliable) ∷ tableOf (a .places)))
 
 -- the state that words stand for
 
@@ -35,4 +35,4 @@ unfoldable pub placesOf : List ℕ → List Place
 placesOf w = rowsOf 129 (drop 3 w)
 
 abbrev pub stateOf : List ℕ → Assembler
-stateOf w = record { unit = getD w 0 0; room = getD w 1 0; reliable = eqb (getD w 2 0) 1; places = placesOf w }
+stateOf w = record { fragmentSize = getD w 0 0; placeSize = getD w 1 0; reliable = eqb (getD w 2 0) 1; places = placesOf w }

@@ -1,7 +1,7 @@
 // The layout of the record: three words, then 129 rows of seven.
-pub const UNIT: usize = 0; // the fragment size f
+pub const FRAGMENT_SIZE: usize = 0; // the fragment size f
 
-pub const ROOM: usize = 1; // the place size p
+pub const PLACE_SIZE: usize = 1; // the place size p
 
 pub const MODE: usize = 2; // 1 reliable, 0 best effort
 

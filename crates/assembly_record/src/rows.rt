@@ -1,4 +1,5 @@
 // A place of the table: one row of the record, lent on to what changes it.
+use crate::layout::FRAGMENT_SIZE;
 use crate::layout::MARK_WORDS;
 use crate::layout::MARKS;
 use crate::layout::NUMBER;
@@ -6,7 +7,6 @@ use crate::layout::ROW;
 use crate::layout::SIZE;
 use crate::layout::TABLE;
 use crate::layout::TIME;
-use crate::layout::UNIT;
 use crate::marks::first_gap;
 use crate::marks::mark_run;
 ghost use mathlib.Core.Path.{_≡_};
@@ -84,5 +84,5 @@ pub fn whole_at(t: &[u64], seat: usize) -> bool
     let e = b + MARK_WORDS;
     let come = first_gap(&t[b..e]) as u64;
     let d = t[TABLE + ROW * seat + SIZE];
-    d <= come * t[UNIT]
+    d <= come * t[FRAGMENT_SIZE]
 }

@@ -49,12 +49,12 @@ pub victim-found : (r : Bool) (ps : List Place) → 0 < length ps → find (vict
 victim-found true ps h = highest-found ps h
 victim-found false ps h = lowest-found ps h
 
-pub finish-whole : (a : Assembler) (w : Work) → isWhole (a .unit) (w .place) ≡ true
+pub finish-whole : (a : Assembler) (w : Work) → isWhole (a .fragmentSize) (w .place) ≡ true
     → finish a w ≡ record { answer = returned (w .place .number) (w .seat) (w .place .size); places = set (a .places) (w .seat) free }
 unfolding finish
 finish-whole a w e = rw e
 
-pub finish-not : (a : Assembler) (w : Work) → isWhole (a .unit) (w .place) ≡ false
+pub finish-not : (a : Assembler) (w : Work) → isWhole (a .fragmentSize) (w .place) ≡ false
     → finish a w ≡ settle (a .reliable) (set (a .places) (w .seat) (w .place))
 unfolding finish
 finish-not a w e = rw e
@@ -89,12 +89,12 @@ elsewhere p s o n d x hd hx h₀ h i b l ne =
 
 pub record Begun (a : Assembler) (area : List ℕ) (c : Call) (w : Work) : Type 0 where
   pub within : w .seat < 129
-  pub sample : Sample (a .unit) (a .room) (w .place)
+  pub sample : Sample (a .fragmentSize) (a .placeSize) (w .place)
   pub number : w .place .number ≡ c .number
   pub from : (at (a .places) (w .seat) .number ≡ c .number) ⊎ (at (a .places) (w .seat) .number ≡ 0)
-  pub ok : RunOk (w .place .size) (a .unit) c
+  pub ok : RunOk (w .place .size) (a .fragmentSize) c
   pub long : length (w .area) ≡ length area
-  pub other : (i b : ℕ) → b < a .room → (i ≡ w .seat → ⊥) → getD (w .area) (i * a .room + b) 0 ≡ getD area (i * a .room + b) 0
+  pub other : (i b : ℕ) → b < a .placeSize → (i ≡ w .seat → ⊥) → getD (w .area) (i * a .placeSize + b) 0 ≡ getD area (i * a .placeSize + b) 0
 
 -- the place that an opening call takes is a sample, of which nothing has come
 pub opened-sample : (f p : ℕ) (c : Call) → 0 < c .number → c .number < top → OpenOk p f c → Sample f p (opened c)
@@ -109,7 +109,7 @@ module _ (a : Assembler) (area : List ℕ) (c : Call) (g : Ok a) (p : Passed a (
       let hit = find-hit (c .number) (a .places) l in
       record {
         within = omega (arith, g .full);
-        sample = rests-sample (a .unit) (a .room) _ (g .each (find (c .number) (a .places))) (omega (arith, hit, p .low));
+        sample = rests-sample (a .fragmentSize) (a .placeSize) _ (g .each (find (c .number) (a .places))) (omega (arith, hit, p .low));
         number = hit;
         from = inl hit;
         ok = rw e at (p .run);
@@ -123,15 +123,15 @@ module _ (a : Assembler) (area : List ℕ) (c : Call) (g : Ok a) (p : Passed a (
       let s : ℕ = find 0 (a .places) in
       let free : s < 129 = omega (arith, spare-find (a .places) (omega (arith, g .few, g .full)), g .full) in
       let hs : c .total ≤ length {A = ℕ} (replicate (c .total) 0) = omega (arith, length-replicate {A = ℕ} (c .total) 0) in
-      let hd : s * a .room + c .total ≤ length area = inside (a .room) s (length area) (c .total) free (o .most) (p .long) in
+      let hd : s * a .placeSize + c .total ≤ length area = inside (a .placeSize) s (length area) (c .total) free (o .most) (p .long) in
       record {
         within = free;
-        sample = opened-sample (a .unit) (a .room) c (p .low) (p .high) o;
+        sample = opened-sample (a .fragmentSize) (a .placeSize) c (p .low) (p .high) o;
         number = refl;
         from = inr (find-hit 0 (a .places) (omega (arith, g .full)));
         ok = rw e at (p .run);
-        long = length-paste area (s * a .room) (replicate (c .total) 0) (c .total) hd hs;
-        other = elsewhere (a .room) s (s * a .room) (c .total) area (replicate (c .total) 0) hd hs (omega arith) (omega (arith, o .most));
+        long = length-paste area (s * a .placeSize) (replicate (c .total) 0) (c .total) hd hs;
+        other = elsewhere (a .placeSize) s (s * a .placeSize) (c .total) area (replicate (c .total) 0) hd hs (omega arith) (omega (arith, o .most));
       }
 
   pub begun : Begun a area c (begin a area c)
@@ -149,25 +149,25 @@ run-start d f c p ok =
     omega arith
 
 module _ (a : Assembler) (area : List ℕ) (c : Call) (g : Ok a) (q : Passed a (length area) c) (w : Work) (h : Begun a area c w) where
-  pub run-within : runAt a c w + runLength a c w ≤ w .seat * a .room + w .place .size
-  run-within = omega (arith, run-start (w .place .size) (a .unit) c (g .some) (h .ok))
+  pub run-within : runAt a c w + runLength a c w ≤ w .seat * a .placeSize + w .place .size
+  run-within = omega (arith, run-start (w .place .size) (a .fragmentSize) c (g .some) (h .ok))
 
   pub run-long : runAt a c w + runLength a c w ≤ length (w .area)
-  run-long = omega (arith, run-within, inside (a .room) (w .seat) (length area) (w .place .size) (h .within) (h .sample .most) (q .long), h .long)
+  run-long = omega (arith, run-within, inside (a .placeSize) (w .seat) (length area) (w .place .size) (h .within) (h .sample .most) (q .long), h .long)
 
   pub ran-long : length (run a c w .area) ≡ length area
   unfolding run
   ran-long = length-paste (w .area) (runAt a c w) (c .payload) (runLength a c w) run-long (omega arith) ∙ h .long
 
-  pub ran-other : (i b : ℕ) → b < a .room → (i ≡ w .seat → ⊥) → getD (run a c w .area) (i * a .room + b) 0 ≡ getD area (i * a .room + b) 0
+  pub ran-other : (i b : ℕ) → b < a .placeSize → (i ≡ w .seat → ⊥) → getD (run a c w .area) (i * a .placeSize + b) 0 ≡ getD area (i * a .placeSize + b) 0
   unfolding run
   ran-other i b l ne =
-      elsewhere (a .room) (w .seat) (runAt a c w) (runLength a c w) (w .area) (c .payload) run-long (omega arith) (omega arith)
+      elsewhere (a .placeSize) (w .seat) (runAt a c w) (runLength a c w) (w .area) (c .payload) run-long (omega arith) (omega arith)
       (omega (arith, run-within, h .sample .most)) i b l ne
       ∙ h .other i b l ne
 
   -- after the run it is a sample, whole or not
-  pub ran-sample : Sample (a .unit) (a .room) (run a c w .place)
+  pub ran-sample : Sample (a .fragmentSize) (a .placeSize) (run a c w .place)
   unfolding run
   ran-sample =
       record {
@@ -236,25 +236,25 @@ module _ (f p : ℕ) where
       (freed ps (find (victim r ps) ps) full once each (omega (arith, victim-found r ps (omega arith)))))
       (split-lt (find 0 ps) 129)
 
-finished : (a : Assembler) (w : Work) → Ok a → w .seat < 129 → Only (a .places) (w .seat) (w .place) → Sample (a .unit) (a .room) (w .place)
-    → Places (a .unit) (a .room) (finish a w .places)
+finished : (a : Assembler) (w : Work) → Ok a → w .seat < 129 → Only (a .places) (w .seat) (w .place) → Sample (a .fragmentSize) (a .placeSize) (w .place)
+    → Places (a .fragmentSize) (a .placeSize) (finish a w .places)
 finished a w g l o s =
-    split (isWhole (a .unit) (w .place))
+    split (isWhole (a .fragmentSize) (w .place))
     (λ e.
-    subst (λ (x : Settled). Places (a .unit) (a .room) (x .places)) (sym (finish-whole a w e))
-    (freed (a .unit) (a .room) (a .places) (w .seat) (g .full) (g .once) (g .each) l))
+    subst (λ (x : Settled). Places (a .fragmentSize) (a .placeSize) (x .places)) (sym (finish-whole a w e))
+    (freed (a .fragmentSize) (a .placeSize) (a .places) (w .seat) (g .full) (g .once) (g .each) l))
     (λ e.
-    subst (λ (x : Settled). Places (a .unit) (a .room) (x .places)) (sym (finish-not a w e))
-    (settled (a .unit) (a .room) (a .reliable) (set (a .places) (w .seat) (w .place)) (length-set (a .places) (w .seat) (w .place) ∙ g .full)
+    subst (λ (x : Settled). Places (a .fragmentSize) (a .placeSize) (x .places)) (sym (finish-not a w e))
+    (settled (a .fragmentSize) (a .placeSize) (a .reliable) (set (a .places) (w .seat) (w .place)) (length-set (a .places) (w .seat) (w .place) ∙ g .full)
     (distinct-set (a .places) (w .seat) (w .place) (g .once) o)
-    (each-set (Rests (a .unit) (a .room)) (a .places) (w .seat) (w .place) (g .each) (inr (s, e)))))
+    (each-set (Rests (a .fragmentSize) (a .placeSize)) (a .places) (w .seat) (w .place) (g .each) (inr (s, e)))))
 
 pub accepted-ok : (a : Assembler) (area : List ℕ) (c : Call) → Ok a → Passed a (length area) c → Ok (accepted a area c .state)
 unfolding accepted run has
 accepted-ok a area c g q =
     let h = begun a area c g q in
     let k = finished a (run a c (begin a area c)) g (h .within) only (ran-sample a area c g q (begin a area c) h) in
-    record { some = g .some; unit = g .unit; least = g .least; room = g .room; full = k .full; few = k .few; once = k .once; each = k .each }
+    record { some = g .some; fragmentSize = g .fragmentSize; least = g .least; placeSize = g .placeSize; full = k .full; few = k .few; once = k .once; each = k .each }
   where
     only : (j : ℕ) → 0 < c .number → at (a .places) j .number ≡ c .number → j ≡ begin a area c .seat
     only j p e =

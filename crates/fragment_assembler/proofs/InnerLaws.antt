@@ -129,8 +129,8 @@ module _ (w : List ℕ) (n seat : ℕ) (o : Bool) (c : Call) (h : Runs w n seat 
           long = b .long;
           within = h .within;
           some = omega (arith, h .some);
-          unit = omega (arith, h .unit);
-          size = omega (arith, h .sample .most, h .room);
+          fragmentSize = omega (arith, h .fragmentSize);
+          size = omega (arith, h .sample .most, h .placeSize);
           few = rw (z, u) (h .sample .few);
           spare =
               λ e.
@@ -225,8 +225,8 @@ module _ (w area : List ℕ) (time number size total start count : ℕ) (payload
             words = g .long;
             within = l;
             some = g .ok .some;
-            unit = g .ok .unit;
-            room = g .ok .room;
+            fragmentSize = g .ok .fragmentSize;
+            placeSize = g .ok .placeSize;
             long = the .long;
             sample = rests-sample (getD w 0 0) (getD w 1 0) (at (placesOf w) k) (g .ok .each k) (omega (arith, the .low, hit));
             ok = record { some = ok .some; start = ok .start; fits = ok .fits };
@@ -263,8 +263,8 @@ module _ (w area : List ℕ) (time number size total start count : ℕ) (payload
               words = b .long;
               within = free-in;
               some = omega (arith, g .ok .some);
-              unit = omega (arith, g .ok .unit);
-              room = omega (arith, g .ok .room);
+              fragmentSize = omega (arith, g .ok .fragmentSize);
+              placeSize = omega (arith, g .ok .placeSize);
               long = omega (arith, the .long);
               sample =
                   rw (opened-at, u, p)

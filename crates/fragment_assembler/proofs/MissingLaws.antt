@@ -78,14 +78,14 @@ unfolding missing
 missing-absent a n e = rw e
 
 missing-present : (a : Assembler) (n : ℕ) → inAssembly (a .places) n ≡ true
-    → missing a n ≡ gaps (at (a .places) (find n (a .places)) .marks) (fragments (at (a .places) (find n (a .places)) .size) (a .unit))
+    → missing a n ≡ gaps (at (a .places) (find n (a .places)) .marks) (fragments (at (a .places) (find n (a .places)) .size) (a .fragmentSize))
 unfolding missing
 missing-present a n e = rw e
 
 pub missing-members : (a : Assembler) (n : ℕ) → inAssembly (a .places) n ≡ true → (k : ℕ)
     → (List·Memᴰ k (missing a n)
-    → (0 < k) × (k ≤ fragments (at (a .places) (find n (a .places)) .size) (a .unit)) × (marked (at (a .places) (find n (a .places)) .marks) (k - 1) ≡ false))
-    × ((0 < k) × (k ≤ fragments (at (a .places) (find n (a .places)) .size) (a .unit)) × (marked (at (a .places) (find n (a .places)) .marks) (k - 1) ≡ false)
+    → (0 < k) × (k ≤ fragments (at (a .places) (find n (a .places)) .size) (a .fragmentSize)) × (marked (at (a .places) (find n (a .places)) .marks) (k - 1) ≡ false))
+    × ((0 < k) × (k ≤ fragments (at (a .places) (find n (a .places)) .size) (a .fragmentSize)) × (marked (at (a .places) (find n (a .places)) .marks) (k - 1) ≡ false)
     → List·Memᴰ k (missing a n))
 missing-members a n e k = (
   λ h. gaps-in _ _ k (subst (List·Memᴰ k) (missing-present a n e) h),
@@ -97,6 +97,6 @@ missing-rises a n i h =
     split (inAssembly (a .places) n)
     (λ e.
     let p : Place = at (a .places) (find n (a .places)) in
-    let q : missing a n ≡ gaps (p .marks) (fragments (p .size) (a .unit)) = missing-present a n e in
-    rw q (gaps-rise (p .marks) (fragments (p .size) (a .unit)) i (rw q at h)))
+    let q : missing a n ≡ gaps (p .marks) (fragments (p .size) (a .fragmentSize)) = missing-present a n e in
+    rw q (gaps-rise (p .marks) (fragments (p .size) (a .fragmentSize)) i (rw q at h)))
     (λ e. absurd (not-suc-le-zero (rw (missing-absent a n e) at h)))

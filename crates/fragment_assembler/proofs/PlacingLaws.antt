@@ -63,14 +63,14 @@ module _ (a : Assembler) (area : List ℕ) (c : Call) (g : Ok a) (e : refusal a 
       ap (λ (l : List ℕ). getD l (runAt a c w + j) 0) area-is
       ∙ paste-in (w .area) (runAt a c w) (c .payload) (runLength a c w) (run-long a area c g pass w work) (omega arith) j h
 
-  pub placed-fragment : (k b : ℕ) → c .start ≤ k → k < c .start + c .count → firstByte k (a .unit) ≤ b → b < endByte k (a .unit) (w .place .size)
-      → b - firstByte (c .start) (a .unit) < length (c .payload)
-      → getD (fragment a area c .area) (w .seat * a .room + b) 0 ≡ getD (c .payload) (b - firstByte (c .start) (a .unit)) 0
+  pub placed-fragment : (k b : ℕ) → c .start ≤ k → k < c .start + c .count → firstByte k (a .fragmentSize) ≤ b → b < endByte k (a .fragmentSize) (w .place .size)
+      → b - firstByte (c .start) (a .fragmentSize) < length (c .payload)
+      → getD (fragment a area c .area) (w .seat * a .placeSize + b) 0 ≡ getD (c .payload) (b - firstByte (c .start) (a .fragmentSize)) 0
   placed-fragment k b lo hi h l p =
-      let i = in-fragment (c .start - 1) (c .count) k (a .unit) b (omega arith) (omega (arith, work .ok .start)) h (omega arith) in
-      let at : w .seat * a .room + b ≡ runAt a c w + (b - firstByte (c .start) (a .unit)) = omega (arith, i .0) in
+      let i = in-fragment (c .start - 1) (c .count) k (a .fragmentSize) b (omega arith) (omega (arith, work .ok .start)) h (omega arith) in
+      let at : w .seat * a .placeSize + b ≡ runAt a c w + (b - firstByte (c .start) (a .fragmentSize)) = omega (arith, i .0) in
       ap (λ (x : ℕ). getD (fragment a area c .area) x 0) at
-      ∙ placed-run (b - firstByte (c .start) (a .unit)) (omega (arith, i .0, i .1))
+      ∙ placed-run (b - firstByte (c .start) (a .fragmentSize)) (omega (arith, i .0, i .1))
 
   -- outside the run the area is what it was after the opening
   outside-run : (x : ℕ) → (x < runAt a c w) ⊎ (runAt a c w + runLength a c w ≤ x) → getD (fragment a area c .area) x 0 ≡ getD (w .area) x 0
@@ -96,26 +96,26 @@ module _ (a : Assembler) (area : List ℕ) (c : Call) (g : Ok a) (e : refusal a 
     zeros : c .total ≤ length {A = ℕ} (replicate (c .total) 0)
     zeros = omega (arith, length-replicate {A = ℕ} (c .total) 0)
 
-    fits : find 0 (a .places) * a .room + c .total ≤ length area
+    fits : find 0 (a .places) * a .placeSize + c .total ≤ length area
     fits =
-        inside (a .room) (find 0 (a .places)) (length area) (c .total) (subst (λ (s : ℕ). s < 129) seat-is (work .within)) (pass .new t .most) (pass .long)
+        inside (a .placeSize) (find 0 (a .places)) (length area) (c .total) (subst (λ (s : ℕ). s < 129) seat-is (work .within)) (pass .new t .most) (pass .long)
 
     pub placed-zero : (b : ℕ) → b < c .total
-        → (b < firstByte (c .start) (a .unit)) ⊎ (firstByte (c .start) (a .unit) + runLength a c w ≤ b)
-        → getD (fragment a area c .area) (w .seat * a .room + b) 0 ≡ 0
+        → (b < firstByte (c .start) (a .fragmentSize)) ⊎ (firstByte (c .start) (a .fragmentSize) + runLength a c w ≤ b)
+        → getD (fragment a area c .area) (w .seat * a .placeSize + b) 0 ≡ 0
     placed-zero b l h =
-        outside-run (w .seat * a .room + b) (⊎-elim (λ k. inl (omega arith)) (λ k. inr (omega arith)) h)
-        ∙ ap (λ (y : Work). getD (y .area) (y .seat * a .room + b) 0) is-fresh
-        ∙ paste-in area (find 0 (a .places) * a .room) (replicate (c .total) 0) (c .total) fits zeros b l
+        outside-run (w .seat * a .placeSize + b) (⊎-elim (λ k. inl (omega arith)) (λ k. inr (omega arith)) h)
+        ∙ ap (λ (y : Work). getD (y .area) (y .seat * a .placeSize + b) 0) is-fresh
+        ∙ paste-in area (find 0 (a .places) * a .placeSize) (replicate (c .total) 0) (c .total) fits zeros b l
         ∙ getD-replicate (c .total) b 0 0 l
 
-    pub placed-others-opening : (x : ℕ) → (x < w .seat * a .room) ⊎ (w .seat * a .room + c .total ≤ x)
+    pub placed-others-opening : (x : ℕ) → (x < w .seat * a .placeSize) ⊎ (w .seat * a .placeSize + c .total ≤ x)
         → getD (fragment a area c .area) x 0 ≡ getD area x 0
     placed-others-opening x h =
-        let s : w .seat * a .room ≡ find 0 (a .places) * a .room = ap (λ (k : ℕ). k * a .room) seat-is in
+        let s : w .seat * a .placeSize ≡ find 0 (a .places) * a .placeSize = ap (λ (k : ℕ). k * a .placeSize) seat-is in
         outside-run x (⊎-elim (λ k. inl (omega arith)) (λ k. inr (omega (arith, run-within a area c g pass w work, size-is))) h)
         ∙ ap (λ (y : Work). getD (y .area) x 0) is-fresh
-        ∙ outside area (find 0 (a .places) * a .room) (replicate (c .total) 0) (c .total) fits zeros x
+        ∙ outside area (find 0 (a .places) * a .placeSize) (replicate (c .total) 0) (c .total) fits zeros x
         (⊎-elim (λ k. inl (omega arith)) (λ k. inr (omega arith)) h)
 
   -- ---- what the answer says
@@ -140,7 +140,7 @@ module _ (a : Assembler) (area : List ℕ) (c : Call) (g : Ok a) (e : refusal a 
     ap (λ (o : After). o .state .places) (fragment-accepted a area c e) ∙ ap (λ (x : Settled). x .places) h,
   )
 
-  pub ends-returned : isWhole (a .unit) (worked .place) ≡ true
+  pub ends-returned : isWhole (a .fragmentSize) (worked .place) ≡ true
       → (fragment a area c .answer ≡ done (returned (c .number) (w .seat) (w .place .size))) × (fragment a area c .state .places ≡ set (a .places) (w .seat) free)
   unfolding run
   ends-returned t = ends-as-finish _ (finish-whole a worked t)
@@ -148,30 +148,30 @@ module _ (a : Assembler) (area : List ℕ) (c : Call) (g : Ok a) (e : refusal a 
   abbrev table : List Place
   table = set (a .places) (w .seat) (worked .place)
 
-  pub ends-drops : isWhole (a .unit) (worked .place) ≡ false → count table ≡ 129
+  pub ends-drops : isWhole (a .fragmentSize) (worked .place) ≡ false → count table ≡ 129
       → (fragment a area c .answer ≡ done (dropped (victim (a .reliable) table)))
       × (fragment a area c .state .places ≡ set table (find (victim (a .reliable) table) table) free)
   unfolding run settle
   ends-drops t h = ends-as-finish _ (finish-not a worked t ∙ rw (eq-eqb (count table) 129 h))
 
-  pub ends-keeps : isWhole (a .unit) (worked .place) ≡ false → (count table ≡ 129 → ⊥)
+  pub ends-keeps : isWhole (a .fragmentSize) (worked .place) ≡ false → (count table ≡ 129 → ⊥)
       → (fragment a area c .answer ≡ done kept) × (fragment a area c .state .places ≡ table)
   unfolding run settle
   ends-keeps t h = ends-as-finish _ (finish-not a worked t ∙ rw (ne-eqb (count table) 129 h))
 
   pub ends-dropped-only : (n : ℕ) → fragment a area c .answer ≡ done (dropped n)
-      → (isWhole (a .unit) (worked .place) ≡ false) × (count table ≡ 129) × (n ≡ victim (a .reliable) table)
+      → (isWhole (a .fragmentSize) (worked .place) ≡ false) × (count table ≡ 129) × (n ≡ victim (a .reliable) table)
   ends-dropped-only n h =
-      split (isWhole (a .unit) (worked .place))
+      split (isWhole (a .fragmentSize) (worked .place))
       (λ t. let k = ends-returned t .0 in let z : _≡_ {A = ℕ} 0 1 = cc in absurd (omega arith))
       (λ t.
       ⊎-elim (λ f. let k = ends-drops t f .0 in (t, f, cc))
       (λ f. let k = ends-keeps t f .0 in let z : _≡_ {A = ℕ} 0 1 = cc in absurd (omega arith)) (split-eq (count table) 129))
 
   pub ends-returned-only : (n i d : ℕ) → fragment a area c .answer ≡ done (returned n i d)
-      → (isWhole (a .unit) (worked .place) ≡ true) × (n ≡ c .number) × (i ≡ w .seat) × (d ≡ w .place .size)
+      → (isWhole (a .fragmentSize) (worked .place) ≡ true) × (n ≡ c .number) × (i ≡ w .seat) × (d ≡ w .place .size)
   ends-returned-only n i d h =
-      split (isWhole (a .unit) (worked .place))
+      split (isWhole (a .fragmentSize) (worked .place))
       (λ t. let k = ends-returned t .0 in (t, cc, cc, cc))
       (λ t.
       ⊎-elim (λ f. let k = ends-drops t f .0 in let z : _≡_ {A = ℕ} 0 1 = cc in absurd (omega arith))
@@ -179,10 +179,10 @@ module _ (a : Assembler) (area : List ℕ) (c : Call) (g : Ok a) (e : refusal a 
 
   -- the place of a returned sample lies in the area
   pub shown-whole : (n i d : ℕ) → fragment a area c .answer ≡ done (returned n i d)
-      → shown a (fragment a area c .area) i d ≡ take d (drop (i * a .room) (fragment a area c .area))
+      → shown a (fragment a area c .area) i d ≡ take d (drop (i * a .placeSize) (fragment a area c .area))
   unfolding shown
   shown-whole n i d h =
       let k = ends-returned-only n i d h in
-      let l : i * a .room + d ≤ length (fragment a area c .area) =
-      (rw (k .2, k .3) (omega (arith, inside (a .room) (w .seat) (length area) (w .place .size) (work .within) (work .sample .most) (pass .long), placed-long))) in
-      rw (le-leb (i * a .room + d) (length (fragment a area c .area)) l)
+      let l : i * a .placeSize + d ≤ length (fragment a area c .area) =
+      (rw (k .2, k .3) (omega (arith, inside (a .placeSize) (w .seat) (length area) (w .place .size) (work .within) (work .sample .most) (pass .long), placed-long))) in
+      rw (le-leb (i * a .placeSize + d) (length (fragment a area c .area)) l)

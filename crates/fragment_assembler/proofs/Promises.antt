@@ -68,14 +68,14 @@ module _ (a : Assembler) (area : List ℕ) (c : Call) (g : Ok a) (e : refusal a 
   run-copied = placed-run a area c g e
 
   -- "fragment k holds bytes (k-1)*f up to, without, min(k*f, D)": each fragment of the run whose payload came
-  pub fragment-copied : (k b : ℕ) → c .start ≤ k → k < c .start + c .count → firstByte k (a .unit) ≤ b → b < endByte k (a .unit) (start .place .size)
-      → b - firstByte (c .start) (a .unit) < length (c .payload)
-      → getD after (start .seat * a .room + b) 0 ≡ getD (c .payload) (b - firstByte (c .start) (a .unit)) 0
+  pub fragment-copied : (k b : ℕ) → c .start ≤ k → k < c .start + c .count → firstByte k (a .fragmentSize) ≤ b → b < endByte k (a .fragmentSize) (start .place .size)
+      → b - firstByte (c .start) (a .fragmentSize) < length (c .payload)
+      → getD after (start .seat * a .placeSize + b) 0 ≡ getD (c .payload) (b - firstByte (c .start) (a .fragmentSize)) 0
   fragment-copied = placed-fragment a area c g e
 
   -- "the first D bytes of that place are set to zero": what an opening run does not bring is zero
   pub rest-cleared : has (a .places) (c .number) ≡ false → (b : ℕ) → b < c .total
-      → (b < firstByte (c .start) (a .unit)) ⊎ (firstByte (c .start) (a .unit) + runLength a c start ≤ b) → getD after (start .seat * a .room + b) 0 ≡ 0
+      → (b < firstByte (c .start) (a .fragmentSize)) ⊎ (firstByte (c .start) (a .fragmentSize) + runLength a c start ≤ b) → getD after (start .seat * a .placeSize + b) 0 ≡ 0
   rest-cleared = placed-zero a area c g e
 
   -- "Other area bytes keep their values": of a number in assembly all but the run's, of one that opens all but the first D of its place
@@ -84,7 +84,7 @@ module _ (a : Assembler) (area : List ℕ) (c : Call) (g : Ok a) (e : refusal a 
   others-kept = placed-others a area c g e
 
   pub others-kept-opening : has (a .places) (c .number) ≡ false → (x : ℕ)
-      → (x < start .seat * a .room) ⊎ (start .seat * a .room + c .total ≤ x) → getD after x 0 ≡ getD area x 0
+      → (x < start .seat * a .placeSize) ⊎ (start .seat * a .placeSize + c .total ≤ x) → getD after x 0 ≡ getD area x 0
   others-kept-opening = placed-others-opening a area c g e
 
   -- ==== Answers
@@ -102,28 +102,28 @@ module _ (a : Assembler) (area : List ℕ) (c : Call) (g : Ok a) (e : refusal a 
   run-marks = ran-as a area c g e
 
   -- "All marked: returned, place freed": it is asked before any drop
-  pub whole-returned : isWhole (a .unit) worked ≡ true
+  pub whole-returned : isWhole (a .fragmentSize) worked ≡ true
       → (fragment a area c .answer ≡ done (returned (c .number) (start .seat) (start .place .size))) × (fragment a area c .state .places ≡ set (a .places) (start .seat) free)
   whole-returned = ends-returned a area c g e
 
   -- "Otherwise, if 129 are in assembly, the highest number is dropped (reliable) or the lowest (best effort)"
-  pub unfinished-dropped : isWhole (a .unit) worked ≡ false → count table ≡ 129
+  pub unfinished-dropped : isWhole (a .fragmentSize) worked ≡ false → count table ≡ 129
       → (fragment a area c .answer ≡ done (dropped (victim (a .reliable) table)))
       × (fragment a area c .state .places ≡ set table (find (victim (a .reliable) table) table) free)
   unfinished-dropped = ends-drops a area c g e
 
   -- otherwise it is kept
-  pub unfinished-kept : isWhole (a .unit) worked ≡ false → (count table ≡ 129 → ⊥) → (fragment a area c .answer ≡ done kept) × (fragment a area c .state .places ≡ table)
+  pub unfinished-kept : isWhole (a .fragmentSize) worked ≡ false → (count table ≡ 129 → ⊥) → (fragment a area c .answer ≡ done kept) × (fragment a area c .state .places ≡ table)
   unfinished-kept = ends-keeps a area c g e
 
   -- a drop is of an unfinished 129th, and of exactly that number
   pub dropped-only : (n : ℕ) → fragment a area c .answer ≡ done (dropped n)
-      → (isWhole (a .unit) worked ≡ false) × (count table ≡ 129) × (n ≡ victim (a .reliable) table)
+      → (isWhole (a .fragmentSize) worked ≡ false) × (count table ≡ 129) × (n ≡ victim (a .reliable) table)
   dropped-only = ends-dropped-only a area c g e
 
   -- no answer returns another number, nor an unfinished sample
   pub returned-only : (n i d : ℕ) → fragment a area c .answer ≡ done (returned n i d)
-      → (isWhole (a .unit) worked ≡ true) × (n ≡ c .number) × (i ≡ start .seat) × (d ≡ start .place .size)
+      → (isWhole (a .fragmentSize) worked ≡ true) × (n ≡ c .number) × (i ≡ start .seat) × (d ≡ start .place .size)
   returned-only = ends-returned-only a area c g e
 
 -- the highest: it is in assembly, and no number is above it
@@ -187,8 +187,8 @@ stale-exact t a g n h = (listed-stale t (a .places) (g .once) n, stale-listed t 
 -- k is listed exactly when it is one of the sample's fragments, numbered from 1, and not marked
 pub missing-exact : (a : Assembler) (n : ℕ) → inAssembly (a .places) n ≡ true → (k : ℕ)
     → (List·Memᴰ k (missing a n)
-    → (0 < k) × (k ≤ fragments (at (a .places) (find n (a .places)) .size) (a .unit)) × (marked (at (a .places) (find n (a .places)) .marks) (k - 1) ≡ false))
-    × ((0 < k) × (k ≤ fragments (at (a .places) (find n (a .places)) .size) (a .unit)) × (marked (at (a .places) (find n (a .places)) .marks) (k - 1) ≡ false)
+    → (0 < k) × (k ≤ fragments (at (a .places) (find n (a .places)) .size) (a .fragmentSize)) × (marked (at (a .places) (find n (a .places)) .marks) (k - 1) ≡ false))
+    × ((0 < k) × (k ≤ fragments (at (a .places) (find n (a .places)) .size) (a .fragmentSize)) × (marked (at (a .places) (find n (a .places)) .marks) (k - 1) ≡ false)
     → List·Memᴰ k (missing a n))
 missing-exact a n e k = missing-members a n e k
 
@@ -209,5 +209,5 @@ query-exact ps n h = (query-found ps n h, query-finds ps n h)
 
 -- the view of a returned sample: its bytes lie in the area, and the view shows them
 pub returned-shown : (a : Assembler) (area : List ℕ) (c : Call) → Ok a → refusal a (length area) c ≡ 0 → (n i d : ℕ) → fragment a area c .answer ≡ done (returned n i d)
-    → shown a (fragment a area c .area) i d ≡ take d (drop (i * a .room) (fragment a area c .area))
+    → shown a (fragment a area c .area) i d ≡ take d (drop (i * a .placeSize) (fragment a area c .area))
 returned-shown a area c g e n i d r = shown-whole a area c g e n i d r

@@ -39,70 +39,70 @@ module _ (most start count : ℕ) where
 -- ---- the call's rows
 
 module _ (a : Assembler) (n : ℕ) (c : Call) where
-  pub call-13 : n < 129 * a .room → 13 ≡ refusal a n c
+  pub call-13 : n < 129 * a .placeSize → 13 ≡ refusal a n c
   unfolding rows
-  call-13 h = rw (lt-ltb n (129 * a .room) h)
+  call-13 h = rw (lt-ltb n (129 * a .placeSize) h)
 
-  module _ (h : 129 * a .room ≤ n) where
+  module _ (h : 129 * a .placeSize ≤ n) where
     pub call-4 : c .number ≡ 0 → 4 ≡ refusal a n c
     unfolding rows
-    call-4 e = rw (le-ltb n (129 * a .room) h, eq-eqb (c .number) 0 e)
+    call-4 e = rw (le-ltb n (129 * a .placeSize) h, eq-eqb (c .number) 0 e)
 
     module _ (z : c .number ≡ 0 → ⊥) (t : c .number < top) where
-      pub call-6 : (c .size ≡ a .unit → ⊥) → 6 ≡ refusal a n c
+      pub call-6 : (c .size ≡ a .fragmentSize → ⊥) → 6 ≡ refusal a n c
       unfolding rows
-      call-6 e = rw (le-ltb n (129 * a .room) h, ne-eqb (c .number) 0 z, lt-leb top (c .number) t, ne-eqb (c .size) (a .unit) e)
+      call-6 e = rw (le-ltb n (129 * a .placeSize) h, ne-eqb (c .number) 0 z, lt-leb top (c .number) t, ne-eqb (c .size) (a .fragmentSize) e)
 
-      module _ (s : c .size ≡ a .unit) where
+      module _ (s : c .size ≡ a .fragmentSize) where
         pub call-known : find (c .number) (a .places) < length (a .places)
-            → runRefusal (fragments (at (a .places) (find (c .number) (a .places)) .size) (a .unit)) (c .start) (c .count) ≡ refusal a n c
+            → runRefusal (fragments (at (a .places) (find (c .number) (a .places)) .size) (a .fragmentSize)) (c .start) (c .count) ≡ refusal a n c
         unfolding rows has
         call-known e =
             rw (
-              le-ltb n (129 * a .room) h,
+              le-ltb n (129 * a .placeSize) h,
               ne-eqb (c .number) 0 z,
               lt-leb top (c .number) t,
-              eq-eqb (c .size) (a .unit) s,
+              eq-eqb (c .size) (a .fragmentSize) s,
               lt-ltb (find (c .number) (a .places)) (length (a .places)) e,
             )
 
         module _ (e : length (a .places) ≤ find (c .number) (a .places)) where
           -- what is left to ask of a call that opens
           opening : first (
-              row 7 (ltb (c .total) (a .unit))
-              ∷ (row 8 (ltb (a .room) (c .total))
-              ∷ (row 9 (ltb 256 (fragments (c .total) (a .unit)))
-              ∷ runRows (fragments (c .total) (a .unit)) (c .start) (c .count)))
+              row 7 (ltb (c .total) (a .fragmentSize))
+              ∷ (row 8 (ltb (a .placeSize) (c .total))
+              ∷ (row 9 (ltb 256 (fragments (c .total) (a .fragmentSize)))
+              ∷ runRows (fragments (c .total) (a .fragmentSize)) (c .start) (c .count)))
               )
               ≡ refusal a n c
           unfolding rows has
           opening =
               rw (
-                le-ltb n (129 * a .room) h,
+                le-ltb n (129 * a .placeSize) h,
                 ne-eqb (c .number) 0 z,
                 lt-leb top (c .number) t,
-                eq-eqb (c .size) (a .unit) s,
+                eq-eqb (c .size) (a .fragmentSize) s,
                 le-ltb (find (c .number) (a .places)) (length (a .places)) e,
               )
 
-          pub call-7 : c .total < a .unit → 7 ≡ refusal a n c
-          call-7 l = subst (λ (k : ℕ). 7 ≡ k) opening (rw (lt-ltb (c .total) (a .unit) l))
+          pub call-7 : c .total < a .fragmentSize → 7 ≡ refusal a n c
+          call-7 l = subst (λ (k : ℕ). 7 ≡ k) opening (rw (lt-ltb (c .total) (a .fragmentSize) l))
 
-          module _ (l : a .unit ≤ c .total) where
-            pub call-8 : a .room < c .total → 8 ≡ refusal a n c
-            call-8 k = subst (λ (r : ℕ). 8 ≡ r) opening (rw (le-ltb (c .total) (a .unit) l, lt-ltb (a .room) (c .total) k))
+          module _ (l : a .fragmentSize ≤ c .total) where
+            pub call-8 : a .placeSize < c .total → 8 ≡ refusal a n c
+            call-8 k = subst (λ (r : ℕ). 8 ≡ r) opening (rw (le-ltb (c .total) (a .fragmentSize) l, lt-ltb (a .placeSize) (c .total) k))
 
-            module _ (k : c .total ≤ a .room) where
-              pub call-9 : 256 < fragments (c .total) (a .unit) → 9 ≡ refusal a n c
+            module _ (k : c .total ≤ a .placeSize) where
+              pub call-9 : 256 < fragments (c .total) (a .fragmentSize) → 9 ≡ refusal a n c
               call-9 m =
                   subst (λ (r : ℕ). 9 ≡ r) opening
-                  (rw (le-ltb (c .total) (a .unit) l, le-ltb (a .room) (c .total) k, lt-ltb 256 (fragments (c .total) (a .unit)) m))
+                  (rw (le-ltb (c .total) (a .fragmentSize) l, le-ltb (a .placeSize) (c .total) k, lt-ltb 256 (fragments (c .total) (a .fragmentSize)) m))
 
-              pub call-opens : fragments (c .total) (a .unit) ≤ 256
-                  → runRefusal (fragments (c .total) (a .unit)) (c .start) (c .count) ≡ refusal a n c
+              pub call-opens : fragments (c .total) (a .fragmentSize) ≤ 256
+                  → runRefusal (fragments (c .total) (a .fragmentSize)) (c .start) (c .count) ≡ refusal a n c
               call-opens m =
-                  subst (λ (r : ℕ). runRefusal (fragments (c .total) (a .unit)) (c .start) (c .count) ≡ r) opening
-                  (rw (le-ltb (c .total) (a .unit) l, le-ltb (a .room) (c .total) k, le-ltb 256 (fragments (c .total) (a .unit)) m))
+                  subst (λ (r : ℕ). runRefusal (fragments (c .total) (a .fragmentSize)) (c .start) (c .count) ≡ r) opening
+                  (rw (le-ltb (c .total) (a .fragmentSize) l, le-ltb (a .placeSize) (c .total) k, le-ltb 256 (fragments (c .total) (a .fragmentSize)) m))
 
 -- neither the time nor the payload is asked
 pub refusal-head : (a : Assembler) (n number size total start count time : ℕ) (payload : List ℕ)
@@ -136,12 +136,12 @@ pub record OpenOk (p f : ℕ) (c : Call) : Type 0 where
   pub few : fragments (c .total) f ≤ 256
 
 pub record Passed (a : Assembler) (n : ℕ) (c : Call) : Type 0 where
-  pub long : 129 * a .room ≤ n
+  pub long : 129 * a .placeSize ≤ n
   pub low : 0 < c .number
   pub high : c .number < top
-  pub size : c .size ≡ a .unit
-  pub run : RunOk (sizeFor a c) (a .unit) c
-  pub new : has (a .places) (c .number) ≡ false → OpenOk (a .room) (a .unit) c
+  pub size : c .size ≡ a .fragmentSize
+  pub run : RunOk (sizeFor a c) (a .fragmentSize) c
+  pub new : has (a .places) (c .number) ≡ false → OpenOk (a .placeSize) (a .fragmentSize) c
 
 pub passed : (a : Assembler) (n : ℕ) (c : Call) → refusal a n c ≡ 0 → Passed a n c
 unfolding rows
@@ -161,9 +161,9 @@ passed a n c e =
       run = record { some = omega arith; start = omega arith; fits = ltb-false _ _ (r10 .1 .1 .0) };
       new = λ t.
           record {
-            least = ltb-false _ _ (opened t (ltb (c .total) (a .unit)) (r7 .0));
-            most = ltb-false _ _ (opened t (ltb (a .room) (c .total)) (r7 .1 .0));
-            few = ltb-false _ _ (opened t (ltb 256 (fragments (c .total) (a .unit))) (r7 .1 .1 .0));
+            least = ltb-false _ _ (opened t (ltb (c .total) (a .fragmentSize)) (r7 .0));
+            most = ltb-false _ _ (opened t (ltb (a .placeSize) (c .total)) (r7 .1 .0));
+            few = ltb-false _ _ (opened t (ltb 256 (fragments (c .total) (a .fragmentSize))) (r7 .1 .1 .0));
           };
     }
   where

@@ -35,9 +35,9 @@ pub empty-ok : (f : ℕ) (reliable : Bool) (p : ℕ) → 0 < f → f < 65536 →
 empty-ok f reliable p u u′ r r′ =
     record {
       some = u;
-      unit = u′;
+      fragmentSize = u′;
       least = r;
-      room = r′;
+      placeSize = r′;
       full = length-replicate 129 free;
       few = omega (arith, none-taken 129);
       once = λ i j h e. absurd (omega (arith, subst (λ (x : Place). 0 < x .number) (at-free 129 i) h));

@@ -47,7 +47,7 @@ fresh a area c =
     record {
       seat = find 0 (a .places);
       place = opened c;
-      area = paste area (find 0 (a .places) * a .room) (replicate (c .total) 0) (c .total);
+      area = paste area (find 0 (a .places) * a .placeSize) (replicate (c .total) 0) (c .total);
     }
 
 unfoldable pub begin : Assembler → List ℕ → Call → Work
@@ -55,10 +55,10 @@ begin a area c = cond (has (a .places) (c .number)) (known a area c) (fresh a ar
 
 -- how many bytes the run brings, and where they go
 abbrev pub runLength : Assembler → Call → Work → ℕ
-runLength a c w = brings (w .place .size) (a .unit) (c .start) (c .count) (c .payload)
+runLength a c w = brings (w .place .size) (a .fragmentSize) (c .start) (c .count) (c .payload)
 
 abbrev pub runAt : Assembler → Call → Work → ℕ
-runAt a c w = w .seat * a .room + firstByte (c .start) (a .unit)
+runAt a c w = w .seat * a .placeSize + firstByte (c .start) (a .fragmentSize)
 
 -- "A run (start k, n fragments) copies .. payload bytes to (k-1)*f, marks all n, and stores the passed time as it is, even an earlier one"
 unfoldable pub run : Assembler → Call → Work → Work
@@ -90,7 +90,7 @@ settle reliable ps =
 -- "All marked: returned, place freed." It is asked before anything is dropped.
 unfoldable pub finish : Assembler → Work → Settled
 finish a w =
-    cond (isWhole (a .unit) (w .place))
+    cond (isWhole (a .fragmentSize) (w .place))
     (record { answer = returned (w .place .number) (w .seat) (w .place .size); places = set (a .places) (w .seat) free })
     (settle (a .reliable) (set (a .places) (w .seat) (w .place)))
 

@@ -34,7 +34,7 @@ pub record Closes (w : List ℕ) (seat : ℕ) (opened : Bool) : Type 0 where
   pub long : length w ≡ 906
   pub within : seat < 129
   pub some : 0 < getD w 0 0
-  pub unit : getD w 0 0 < 65536
+  pub fragmentSize : getD w 0 0 < 65536
   pub size : at (placesOf w) seat .size ≤ 65536
   pub few : fragments (at (placesOf w) seat .size) (getD w 0 0) ≤ 256
   pub spare : opened ≡ false → find 0 (placesOf w) < 129
@@ -44,8 +44,8 @@ pub record Runs (w : List ℕ) (n seat : ℕ) (opened : Bool) (c : Call) : Type 
   pub words : length w ≡ 906
   pub within : seat < 129
   pub some : 0 < getD w 0 0
-  pub unit : getD w 0 0 < 65536
-  pub room : getD w 1 0 ≤ 65536
+  pub fragmentSize : getD w 0 0 < 65536
+  pub placeSize : getD w 1 0 ≤ 65536
   pub long : 129 * getD w 1 0 ≤ n
   pub sample : Sample (getD w 0 0) (getD w 1 0) (at (placesOf w) seat)
   pub ok : RunOk (at (placesOf w) seat .size) (getD w 0 0) c

@@ -22,7 +22,7 @@ listedOf (Listed n) = done n
 unfoldable pub missing : Assembler → ℕ → List ℕ
 missing a n =
     cond (inAssembly (a .places) n)
-    (gaps (at (a .places) (find n (a .places)) .marks) (fragments (at (a .places) (find n (a .places)) .size) (a .unit)))
+    (gaps (at (a .places) (find n (a .places)) .marks) (fragments (at (a .places) (find n (a .places)) .size) (a .fragmentSize)))
     []
 
 -- what the call says and leaves: the answer and the lent list

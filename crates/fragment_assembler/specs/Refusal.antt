@@ -54,13 +54,13 @@ runRefusal most start count = first (runRows most start count)
 -- "Order: fragment 13, 4, 6, 7, 8, 9, 10, 11, 12", on an area of n bytes
 unfoldable pub rows : Assembler → ℕ → Call → List Row
 rows a n c =
-    row 13 (ltb n (129 * a .room))
+    row 13 (ltb n (129 * a .placeSize))
     ∷ (row 4 (eqb (c .number) 0 || leb top (c .number))
-    ∷ (row 6 (not (eqb (c .size) (a .unit)))
-    ∷ (row 7 (opens a c && ltb (c .total) (a .unit))
-    ∷ (row 8 (opens a c && ltb (a .room) (c .total))
-    ∷ (row 9 (opens a c && ltb 256 (fragments (c .total) (a .unit)))
-    ∷ runRows (fragments (sizeFor a c) (a .unit)) (c .start) (c .count))))))
+    ∷ (row 6 (not (eqb (c .size) (a .fragmentSize)))
+    ∷ (row 7 (opens a c && ltb (c .total) (a .fragmentSize))
+    ∷ (row 8 (opens a c && ltb (a .placeSize) (c .total))
+    ∷ (row 9 (opens a c && ltb 256 (fragments (c .total) (a .fragmentSize)))
+    ∷ runRows (fragments (sizeFor a c) (a .fragmentSize)) (c .start) (c .count))))))
 
 -- the refusal's number, 0 where the call is accepted
 abbrev pub refusal : Assembler → ℕ → Call → ℕ

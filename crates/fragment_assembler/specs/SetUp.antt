@@ -26,7 +26,7 @@ setUpRefusal f p n = first (setUpRows f p n)
 
 -- a fresh assembler: every place is free
 abbrev pub empty : ℕ → Bool → ℕ → Assembler
-empty f reliable p = record { unit = f; room = p; reliable = reliable; places = replicate 129 free }
+empty f reliable p = record { fragmentSize = f; placeSize = p; reliable = reliable; places = replicate 129 free }
 
 -- what set-up says and leaves: the answer and the words
 pub record Setting : Type 0 where

@@ -8,4 +8,4 @@ use Rattle.assembly_record.specs.State.{Assembler}
 
 -- place i starts at i * p
 unfoldable pub shown : Assembler → List ℕ → ℕ → ℕ → List ℕ
-shown a area i n = cond (leb (i * a .room + n) (length area)) (take n (drop (i * a .room) area)) []
+shown a area i n = cond (leb (i * a .placeSize + n) (length area)) (take n (drop (i * a .placeSize) area)) []

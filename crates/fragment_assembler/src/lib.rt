@@ -3,16 +3,16 @@ use crate::settle::take_frags;
 use assembly_record::clean::how_many;
 use assembly_record::clean::list;
 use assembly_record::clean::sweep_all;
+use assembly_record::layout::FRAGMENT_SIZE;
 use assembly_record::layout::MARK_WORDS;
 use assembly_record::layout::MARKS;
 use assembly_record::layout::MODE;
+use assembly_record::layout::PLACE_SIZE;
 use assembly_record::layout::PLACES;
 use assembly_record::layout::RECORD;
-use assembly_record::layout::ROOM;
 use assembly_record::layout::ROW;
 use assembly_record::layout::SIZE;
 use assembly_record::layout::TABLE;
-use assembly_record::layout::UNIT;
 use assembly_record::marks::count_gaps;
 use assembly_record::marks::list_gaps;
 use assembly_record::rows::wipe;
@@ -36,7 +36,7 @@ mod refusal;
 mod settle;
 
 // The largest place.
-const MOST_ROOM: u32 = 65536;
+const MOST_PLACE_SIZE: u32 = 65536;
 
 // What a call of set-up says.
 pub enum Start {
@@ -78,13 +78,13 @@ fn bit_of(b: bool) -> u64
 }
 
 // The words of a fresh assembler.
-fn reset(d: &mut [u64], unit: u64, room: u64, mode: u64)
+fn reset(d: &mut [u64], fragment_size: u64, place_size: u64, mode: u64)
     requires { ⌜ lists.length (now d) ≡ 906 ⌝ }
-    ensures { λ _. ⌜ now (d .exit) ≡ unit ∷ (room ∷ (mode ∷ replicate 903 0)) ⌝ }
+    ensures { λ _. ⌜ now (d .exit) ≡ «fragment_size» ∷ («place_size» ∷ (mode ∷ replicate 903 0)) ⌝ }
 {
     wipe(d);
-    d[UNIT] = unit;
-    d[ROOM] = room;
+    d[FRAGMENT_SIZE] = fragment_size;
+    d[PLACE_SIZE] = place_size;
     d[MODE] = mode;
 }
 
@@ -98,7 +98,7 @@ pub fn set_up(t: &mut [u64], fragment_size: u16, reliable: bool, place_size: u32
     if place_size == 0 {
         return Start::Refused(14);
     }
-    if MOST_ROOM < place_size {
+    if MOST_PLACE_SIZE < place_size {
         return Start::Refused(14);
     }
     if t.len() < RECORD {
@@ -138,7 +138,7 @@ pub fn view<'a>(t: &[u64], area: &'a [u8], place: usize, length: usize) -> &'a [
     requires { ⌜ Good (now t) ⌝ }
     ensures { λ r. ⌜ now r ≡ shown (stateOf (now (t .entry))) (now (area .entry)) place length ⌝ }
 {
-    let p = t[ROOM] as usize;
+    let p = t[PLACE_SIZE] as usize;
     if area.len() / p < place {
         return &area[0..0];
     }
@@ -201,7 +201,7 @@ pub fn missing_frags_for(t: &[u64], number: i64, out: &mut [u32]) -> Listing
         return Listing::Listed(0);
     }
     let d = t[TABLE + ROW * at + SIZE];
-    let f = count_of(d, t[UNIT]);
+    let f = count_of(d, t[FRAGMENT_SIZE]);
     let b = TABLE + ROW * at + MARKS;
     let e = b + MARK_WORDS;
     let k = count_gaps(&t[b..e], f);

@@ -1,10 +1,10 @@
 // The refusals of a fragment call, in the document's order.
+use assembly_record::layout::FRAGMENT_SIZE;
+use assembly_record::layout::PLACE_SIZE;
 use assembly_record::layout::PLACES;
-use assembly_record::layout::ROOM;
 use assembly_record::layout::ROW;
 use assembly_record::layout::SIZE;
 use assembly_record::layout::TABLE;
-use assembly_record::layout::UNIT;
 ghost use mathlib.Core.Path.{_≡_};
 ghost use mathlib.Core.List.{[]};
 ghost use Prim.Native.Nat.{_<_};
@@ -51,8 +51,8 @@ pub(crate) fn refuse(
     requires { ⌜ (Good (now t)) × ((at ≡ find number (placesOf (now t))) × (number < top)) ⌝ }
     ensures { λ r. ⌜ r ≡ refusal (stateOf (now (t .entry))) long (callOf 0 number size «data_size» start count []) ⌝ }
 {
-    let f = t[UNIT];
-    let p = t[ROOM];
+    let f = t[FRAGMENT_SIZE];
+    let p = t[PLACE_SIZE];
     let room = p as usize;
     let whole = PLACES * room;
     if long < whole {

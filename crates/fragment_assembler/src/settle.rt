@@ -4,12 +4,12 @@ use crate::refusal::refuse;
 use assembly_record::area::clear_at;
 use assembly_record::area::copy_at;
 use assembly_record::area::less;
+use assembly_record::layout::FRAGMENT_SIZE;
+use assembly_record::layout::PLACE_SIZE;
 use assembly_record::layout::PLACES;
-use assembly_record::layout::ROOM;
 use assembly_record::layout::ROW;
 use assembly_record::layout::SIZE;
 use assembly_record::layout::TABLE;
-use assembly_record::layout::UNIT;
 use assembly_record::rows::open_at;
 use assembly_record::rows::run_at;
 use assembly_record::rows::whole_at;
@@ -35,8 +35,8 @@ fn drop_one(t: &mut [u64]) -> Answer
     requires { ⌜ length (now t) ≡ 906 ⌝ }
     ensures { λ r. ⌜ Ends (now (t .entry)) (settle (eqb (getD (now (t .entry)) 2 0) 1) (placesOf (now (t .entry)))) r (now (t .exit)) ⌝ }
 {
-    let room = seek(t, 0);
-    if room < PLACES {
+    let free = seek(t, 0);
+    if free < PLACES {
         return Answer::Kept;
     }
     let v = pick_victim(t);
@@ -82,8 +82,8 @@ fn insert_frags(
     requires { ⌜ Runs (now t) (length (now area)) seat opened (callOf time number 0 0 start count (now payload)) ⌝ }
     ensures { λ r. ⌜ Worked (now (t .entry)) (now (area .entry)) seat (callOf time number 0 0 start count (now (payload .entry))) r (now (t .exit)) (now (area .exit)) ⌝ }
 {
-    let f = t[UNIT] as usize;
-    let p = t[ROOM] as usize;
+    let f = t[FRAGMENT_SIZE] as usize;
+    let p = t[PLACE_SIZE] as usize;
     let d = t[TABLE + ROW * seat + SIZE] as usize;
     let k = (start - 1) as usize;
     let n = count as usize;
@@ -119,7 +119,7 @@ pub(crate) fn take_frags(
         return insert_frags(t, area, at, false, time, number, start, count, payload);
     }
     let seat = seek(t, 0);
-    let p = t[ROOM] as usize;
+    let p = t[PLACE_SIZE] as usize;
     let d = data_size as usize;
     clear_at(area, seat * p, d);
     open_at(t, seat, number, data_size as u64);

@@ -81,26 +81,26 @@ chain-of {N = N} {B = B} (starve.Calls.cleaned {w = w} {area = area} {rs = rs} {
     subst (λ (m : Moment). Chain N B m rs time) e (starve.Chain.other (chain-of h) (cleans cutoff out) le (subst (Bounded N) (sym e) low))
 
 -- a call leaves the place size
-same-room : (a : Assembler) (area : List ℕ) (c : Call) → fragment a area c .state .room ≡ a .room
+same-room : (a : Assembler) (area : List ℕ) (c : Call) → fragment a area c .state .placeSize ≡ a .placeSize
 unfolding accepted
 same-room a area c =
-    ⊎-elim (λ z. ap (λ (o : After). o .state .room) (fragment-accepted a area c z))
-    (λ z. ap (λ (o : After). o .state .room) (fragment-refused a area c z)) (split-eq (refusal a (length area) c) 0)
+    ⊎-elim (λ z. ap (λ (o : After). o .state .placeSize) (fragment-accepted a area c z))
+    (λ z. ap (λ (o : After). o .state .placeSize) (fragment-refused a area c z)) (split-eq (refusal a (length area) c) 0)
 
-shown-room : (a b : Assembler) (area : List ℕ) (i n : ℕ) → a .room ≡ b .room → shown a area i n ≡ shown b area i n
+shown-room : (a b : Assembler) (area : List ℕ) (i n : ℕ) → a .placeSize ≡ b .placeSize → shown a area i n ≡ shown b area i n
 unfolding shown
 shown-room a b area i n e = ap (λ (p : ℕ). cond (leb (i * p + n) (length area)) (take n (drop (i * p) area)) []) e
 
 -- ==== The theorem, of the public calls
 
 pub calls-not-starved : {N : ℕ} {B w area : List ℕ} {rs : List Run} {time : ℕ} → Calls N B w area rs time
-    → (c : Call) (r : Answer) (w′ area′ : List ℕ) → Does w area c r w′ area′ → c .number ≡ N → isRefused (fateOf r) ≡ false → Cut (stateOf w .unit) B c
+    → (c : Call) (r : Answer) (w′ area′ : List ℕ) → Does w area c r w′ area′ → c .number ≡ N → isRefused (fateOf r) ≡ false → Cut (stateOf w .fragmentSize) B c
     → Answered N B w rs c r w′ area′
 calls-not-starved {N = N} {B = B} {w = w} {area = area} {rs = rs} h c r w′ area′ d cn ok cut =
     let s = does-said w area c r w′ area′ d in
     let e = does-after w area c r w′ area′ d in
     let n = not-starved (chain-of h) c cn (accepted-shows (stateOf w) area c (ap isRefused s ∙ ok)) cut in
-    let room : stateOf w′ .room ≡ stateOf w .room = ap (λ (m : Moment). m .state .room) (sym e) ∙ same-room (stateOf w) area c in
+    let room : stateOf w′ .placeSize ≡ stateOf w .placeSize = ap (λ (m : Moment). m .state .placeSize) (sym e) ∙ same-room (stateOf w) area c in
     record {
       exactly = ap (returns N) (sym s) ∙ n .exactly;
       bytes = λ t.

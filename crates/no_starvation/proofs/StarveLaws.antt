@@ -54,8 +54,8 @@ record Seated (N : ℕ) (B : List ℕ) (a : Assembler) (area : List ℕ) (rs : L
   alone : Alone N i (a .places)
   size : at (a .places) i .size ≡ length B
   time : at (a .places) i .time ≡ t
-  marks : (j : ℕ) → j < fragments (length B) (a .unit) → marked (at (a .places) i .marks) j ≡ brought rs j
-  bytes : Bytes (a .unit) B area (i * a .room) rs
+  marks : (j : ℕ) → j < fragments (length B) (a .fragmentSize) → marked (at (a .places) i .marks) j ≡ brought rs j
+  bytes : Bytes (a .fragmentSize) B area (i * a .placeSize) rs
 
 record Inv (N : ℕ) (B : List ℕ) (a : Assembler) (area : List ℕ) (rs : List Run) (t : ℕ) : Type 0 where
   ok : Ok a
@@ -112,7 +112,7 @@ settle-each P r ps full each f j =
 finish-each : (P : Place → Type 0) (a : Assembler) (w : Work) → length (a .places) ≡ 129 → ((j : ℕ) → P (at (a .places) j)) → P free → P (w .place)
     → (j : ℕ) → P (at (finish a w .places) j)
 finish-each P a w full each f h j =
-    split (isWhole (a .unit) (w .place))
+    split (isWhole (a .fragmentSize) (w .place))
     (λ e. subst (λ (x : Settled). P (at (x .places) j)) (sym (finish-whole a w e)) (each-set P (a .places) (w .seat) free each f j))
     (λ e.
     subst (λ (x : Settled). P (at (x .places) j)) (sym (finish-not a w e))
@@ -123,7 +123,7 @@ finish-keeps : (N i : ℕ) (a : Assembler) (w : Work) → 0 < N → Ok a → a .
     → Alone N i (a .places) → (i ≡ w .seat → ⊥) → (w .place .number ≡ N → ⊥) → lower N (finish a w .places) < 128
     → (at (finish a w .places) i ≡ at (a .places) i) × Alone N i (finish a w .places)
 finish-keeps N i a w some g r l e al ne nn low =
-    split (isWhole (a .unit) (w .place))
+    split (isWhole (a .fragmentSize) (w .place))
     (λ t.
     subst (λ (x : Settled). (at (x .places) i ≡ at (a .places) i) × Alone N i (x .places)) (sym (finish-whole a w t))
     (getD-set-other (a .places) (w .seat) i free free ne, alone-set N i (a .places) (w .seat) free al (λ z. omega arith)))
@@ -147,7 +147,7 @@ other-seated N B a area rs t i c some g r q nn s low =
     (λ z. ⊎-elim (λ x. nn (sym x ∙ ap (λ (k : ℕ). at (a .places) k .number) (sym z) ∙ s .here))
     (λ x. let y : N ≡ 0 = sym (s .here) ∙ ap (λ (k : ℕ). at (a .places) k .number) z ∙ x in omega arith) (b .from)) in
     let k = finish-keeps N i a w some g r (s .within) (s .here) (s .alone) ne nn low in
-    let small : length B ≤ a .room = subst (λ (n : ℕ). n ≤ a .room) (s .size) (rests-size (a .unit) (a .room) (at (a .places) i) (g .each i)) in
+    let small : length B ≤ a .placeSize = subst (λ (n : ℕ). n ≤ a .placeSize) (s .size) (rests-size (a .fragmentSize) (a .placeSize) (at (a .places) i) (g .each i)) in
     record {
       within = s .within;
       here = ap Num (k .0) ∙ s .here;
@@ -155,7 +155,7 @@ other-seated N B a area rs t i c some g r q nn s low =
       size = ap (λ (p : Place). p .size) (k .0) ∙ s .size;
       time = ap (λ (p : Place). p .time) (k .0) ∙ s .time;
       marks = λ j l. ap (λ (p : Place). marked (p .marks) j) (k .0) ∙ s .marks j l;
-      bytes = λ j v l h e. ran-other a area c g q (begin a area c) b i (j * a .unit + v) (omega arith) ne ∙ s .bytes j v l h e;
+      bytes = λ j v l h e. ran-other a area c g q (begin a area c) b i (j * a .fragmentSize + v) (omega arith) ne ∙ s .bytes j v l h e;
     }
 
 other-absent : (N : ℕ) (a : Assembler) (area : List ℕ) (c : Call) → 0 < N → Ok a → (c .number ≡ N → ⊥) → Absent N (a .places)
@@ -191,8 +191,8 @@ and-both false b e = let z : _≡_ {A = ℕ} 0 1 = cc in absurd (omega arith)
 record Ready (N : ℕ) (B : List ℕ) (a : Assembler) (rs : List Run) (w : Work) : Type 0 where
   alone : Alone N (w .seat) (a .places)
   size : w .place .size ≡ length B
-  marks : (j : ℕ) → j < fragments (length B) (a .unit) → marked (w .place .marks) j ≡ brought rs j
-  bytes : Bytes (a .unit) B (w .area) (w .seat * a .room) rs
+  marks : (j : ℕ) → j < fragments (length B) (a .fragmentSize) → marked (w .place .marks) j ≡ brought rs j
+  bytes : Bytes (a .fragmentSize) B (w .area) (w .seat * a .placeSize) rs
 
 seated-has : (N i : ℕ) (ps : List Place) → length ps ≡ 129 → i < 129 → at ps i .number ≡ N → Alone N i ps → (find N ps ≡ i) × (has ps N ≡ true)
 unfolding has
@@ -221,7 +221,7 @@ fresh-ready N B a area c e ab =
     }
 
 ready : (N : ℕ) (B : List ℕ) (a : Assembler) (area : List ℕ) (rs : List Run) (t : ℕ) (c : Call) → Inv N B a area rs t → c .number ≡ N
-    → Cut (a .unit) B c → Ready N B a rs (begin a area c)
+    → Cut (a .fragmentSize) B c → Ready N B a rs (begin a area c)
 ready N B a area rs t c v cn cut =
     ⊎-elim
     (λ x.
@@ -241,82 +241,82 @@ enough f B c cut =
     let e = ap length (cut .begins) in
     omega (arith, length-take (wants f B c) (c .payload), length-take (wants f B c) (drop ((c .start - 1) * f) B), length-drop ((c .start - 1) * f) B, e)
 
-module _ (N : ℕ) (B : List ℕ) (a : Assembler) (area : List ℕ) (rs : List Run) (c : Call) (g : Ok a) (q : Passed a (length area) c) (cut : Cut (a .unit) B c)
+module _ (N : ℕ) (B : List ℕ) (a : Assembler) (area : List ℕ) (rs : List Run) (c : Call) (g : Ok a) (q : Passed a (length area) c) (cut : Cut (a .fragmentSize) B c)
     (w : Work) (b : Begun a area c w) (y : Ready N B a rs w) where
-  ran-marks : (j : ℕ) → j < fragments (length B) (a .unit) → marked (run a c w .place .marks) j ≡ brought (runOf c ∷ rs) j
+  ran-marks : (j : ℕ) → j < fragments (length B) (a .fragmentSize) → marked (run a c w .place .marks) j ≡ brought (runOf c ∷ rs) j
   unfolding run
   ran-marks j l =
       marked-run (w .place .marks) (c .start - 1) (c .count) j (b .sample .long) (omega (arith, b .ok .fits, b .sample .few))
       ∙ ap (λ (x : Bool). x || covers (c .start - 1) (c .count) j) (y .marks j l)
 
-  ran-all : isWhole (a .unit) (run a c w .place) ≡ isBrought (a .unit) B (runOf c ∷ rs)
+  ran-all : isWhole (a .fragmentSize) (run a c w .place) ≡ isBrought (a .fragmentSize) B (runOf c ∷ rs)
   unfolding run
   ran-all =
-      ap (λ (d : ℕ). all (marked (run a c w .place .marks)) (fragments d (a .unit))) (y .size)
-      ∙ all-ext (marked (run a c w .place .marks)) (brought (runOf c ∷ rs)) (fragments (length B) (a .unit)) ran-marks
+      ap (λ (d : ℕ). all (marked (run a c w .place .marks)) (fragments d (a .fragmentSize))) (y .size)
+      ∙ all-ext (marked (run a c w .place .marks)) (brought (runOf c ∷ rs)) (fragments (length B) (a .fragmentSize)) ran-marks
 
   -- a byte of the run, and one outside it
-  byte-in : (v : ℕ) → (c .start - 1) * a .unit ≤ v → v < (c .start - 1) * a .unit + c .count * a .unit → v < length B
-      → getD (run a c w .area) (w .seat * a .room + v) 0 ≡ getD B v 0
+  byte-in : (v : ℕ) → (c .start - 1) * a .fragmentSize ≤ v → v < (c .start - 1) * a .fragmentSize + c .count * a .fragmentSize → v < length B
+      → getD (run a c w .area) (w .seat * a .placeSize + v) 0 ≡ getD B v 0
   unfolding run
   byte-in v lo hi l =
-      let o : ℕ = (c .start - 1) * a .unit in
+      let o : ℕ = (c .start - 1) * a .fragmentSize in
       let n : ℕ = runLength a c w in
-      let lw : v - o < wants (a .unit) B c = omega arith in
-      let ln : v - o < n = omega (arith, enough (a .unit) B c cut, y .size) in
-      ap (λ (k : ℕ). getD (paste (w .area) (w .seat * a .room + o) (c .payload) n) k 0) (omega arith)
-      ∙ paste-in (w .area) (w .seat * a .room + o) (c .payload) n (run-long a area c g q w b) (omega arith) (v - o) ln
-      ∙ sym (getD-take (wants (a .unit) B c) (c .payload) (v - o) 0 lw)
+      let lw : v - o < wants (a .fragmentSize) B c = omega arith in
+      let ln : v - o < n = omega (arith, enough (a .fragmentSize) B c cut, y .size) in
+      ap (λ (k : ℕ). getD (paste (w .area) (w .seat * a .placeSize + o) (c .payload) n) k 0) (omega arith)
+      ∙ paste-in (w .area) (w .seat * a .placeSize + o) (c .payload) n (run-long a area c g q w b) (omega arith) (v - o) ln
+      ∙ sym (getD-take (wants (a .fragmentSize) B c) (c .payload) (v - o) 0 lw)
       ∙ ap (λ (x : List ℕ). getD x (v - o) 0) (cut .begins)
-      ∙ getD-take (wants (a .unit) B c) (drop o B) (v - o) 0 lw
+      ∙ getD-take (wants (a .fragmentSize) B c) (drop o B) (v - o) 0 lw
       ∙ getD-drop o B (v - o) 0
       ∙ ap (λ (k : ℕ). getD B k 0) (omega arith)
 
-  byte-out : (v : ℕ) → (v < (c .start - 1) * a .unit) ⊎ ((c .start - 1) * a .unit + c .count * a .unit ≤ v)
-      → getD (run a c w .area) (w .seat * a .room + v) 0 ≡ getD (w .area) (w .seat * a .room + v) 0
+  byte-out : (v : ℕ) → (v < (c .start - 1) * a .fragmentSize) ⊎ ((c .start - 1) * a .fragmentSize + c .count * a .fragmentSize ≤ v)
+      → getD (run a c w .area) (w .seat * a .placeSize + v) 0 ≡ getD (w .area) (w .seat * a .placeSize + v) 0
   unfolding run
   byte-out v h =
       ⊎-elim
       (λ x.
-      paste-left (w .area) (runAt a c w) (c .payload) (runLength a c w) (run-long a area c g q w b) (omega arith) (w .seat * a .room + v) (omega arith))
+      paste-left (w .area) (runAt a c w) (c .payload) (runLength a c w) (run-long a area c g q w b) (omega arith) (w .seat * a .placeSize + v) (omega arith))
       (λ x.
-      paste-right (w .area) (runAt a c w) (c .payload) (runLength a c w) (run-long a area c g q w b) (omega arith) (w .seat * a .room + v) (omega arith))
+      paste-right (w .area) (runAt a c w) (c .payload) (runLength a c w) (run-long a area c g q w b) (omega arith) (w .seat * a .placeSize + v) (omega arith))
       h
 
-  ran-bytes : Bytes (a .unit) B (run a c w .area) (w .seat * a .room) (runOf c ∷ rs)
+  ran-bytes : Bytes (a .fragmentSize) B (run a c w .area) (w .seat * a .placeSize) (runOf c ∷ rs)
   ran-bytes j r l h e =
       split (covers (c .start - 1) (c .count) j)
       (λ t.
       let u = and-both _ _ t in
-      let z = in-run (c .start - 1) (c .count) j r (a .unit) (leb-true _ _ (u .0)) (ltb-true _ _ (u .1)) l in
-      byte-in (j * a .unit + r) (z .0) (z .1) h)
+      let z = in-run (c .start - 1) (c .count) j r (a .fragmentSize) (leb-true _ _ (u .0)) (ltb-true _ _ (u .1)) l in
+      byte-in (j * a .fragmentSize + r) (z .0) (z .1) h)
       (λ t.
-      byte-out (j * a .unit + r)
-      (⊎-elim (λ x. inl (before-run (c .start - 1) j r (a .unit) (leb-false _ _ x) l))
-      (λ x. inr (after-run (c .start - 1) (c .count) j r (a .unit) (ltb-false _ _ x))) (and-none _ _ t))
+      byte-out (j * a .fragmentSize + r)
+      (⊎-elim (λ x. inl (before-run (c .start - 1) j r (a .fragmentSize) (leb-false _ _ x) l))
+      (λ x. inr (after-run (c .start - 1) (c .count) j r (a .fragmentSize) (ltb-false _ _ x))) (and-none _ _ t))
       ∙ y .bytes j r l h (or-one _ _ e t))
 
   -- the whole block, where every fragment was brought
-  ran-whole : isBrought (a .unit) B (runOf c ∷ rs) ≡ true → take (length B) (drop (w .seat * a .room) (run a c w .area)) ≡ B
+  ran-whole : isBrought (a .fragmentSize) B (runOf c ∷ rs) ≡ true → take (length B) (drop (w .seat * a .placeSize) (run a c w .area)) ≡ B
   ran-whole e =
-      ext-getD 0 (take (length B) (drop (w .seat * a .room) (run a c w .area))) B len
+      ext-getD 0 (take (length B) (drop (w .seat * a .placeSize) (run a c w .area))) B len
       (λ v l.
       let lv : v < length B = omega (arith, len) in
-      let s = div-add-mod' v (a .unit) in
-      getD-take (length B) (drop (w .seat * a .room) (run a c w .area)) v 0 lv
-      ∙ getD-drop (w .seat * a .room) (run a c w .area) v 0
-      ∙ subst (λ (k : ℕ). getD (run a c w .area) (w .seat * a .room + k) 0 ≡ getD B k 0) s
-      (ran-bytes (v / a .unit) (v % a .unit) (mod-lt v (g .some)) (omega arith)
-      (all-at (brought (runOf c ∷ rs)) (fragments (length B) (a .unit)) (v / a .unit) e (fragment-of (length B) (a .unit) v (g .some) lv))))
+      let s = div-add-mod' v (a .fragmentSize) in
+      getD-take (length B) (drop (w .seat * a .placeSize) (run a c w .area)) v 0 lv
+      ∙ getD-drop (w .seat * a .placeSize) (run a c w .area) v 0
+      ∙ subst (λ (k : ℕ). getD (run a c w .area) (w .seat * a .placeSize + k) 0 ≡ getD B k 0) s
+      (ran-bytes (v / a .fragmentSize) (v % a .fragmentSize) (mod-lt v (g .some)) (omega arith)
+      (all-at (brought (runOf c ∷ rs)) (fragments (length B) (a .fragmentSize)) (v / a .fragmentSize) e (fragment-of (length B) (a .fragmentSize) v (g .some) lv))))
     where
-      len : length (take (length B) (drop (w .seat * a .room) (run a c w .area))) ≡ length B
+      len : length (take (length B) (drop (w .seat * a .placeSize) (run a c w .area))) ≡ length B
       len =
           omega (
             arith,
-            length-take (length B) (drop (w .seat * a .room) (run a c w .area)),
-            length-drop (w .seat * a .room) (run a c w .area),
+            length-take (length B) (drop (w .seat * a .placeSize) (run a c w .area)),
+            length-drop (w .seat * a .placeSize) (run a c w .area),
             ran-long a area c g q w b,
-            inside (a .room) (w .seat) (length area) (w .place .size) (b .within) (b .sample .most) (q .long),
+            inside (a .placeSize) (w .seat) (length area) (w .place .size) (b .within) (b .sample .most) (q .long),
             y .size,
           )
 
@@ -327,7 +327,7 @@ unfolding settle
 settle-silent r n ps = split (eqb (count ps) 129) (λ e. rw e) (λ e. rw e)
 
 module _ (N : ℕ) (B : List ℕ) (a : Assembler) (area : List ℕ) (rs : List Run) (t : ℕ) (c : Call) (v : Inv N B a area rs t) (cn : c .number ≡ N)
-    (ok : refusal a (length area) c ≡ 0) (cut : Cut (a .unit) B c) where
+    (ok : refusal a (length area) c ≡ 0) (cut : Cut (a .fragmentSize) B c) where
   q : Passed a (length area) c
   q = passed a (length area) c ok
 
@@ -337,33 +337,33 @@ module _ (N : ℕ) (B : List ℕ) (a : Assembler) (area : List ℕ) (rs : List R
   y : Ready N B a rs (begin a area c)
   y = ready N B a area rs t c v cn cut
 
-  same-all : isWhole (a .unit) (run a c (begin a area c) .place) ≡ isBrought (a .unit) B (runOf c ∷ rs)
+  same-all : isWhole (a .fragmentSize) (run a c (begin a area c) .place) ≡ isBrought (a .fragmentSize) B (runOf c ∷ rs)
   same-all = ran-all N B a area rs c (v .ok) q cut (begin a area c) b y
 
-  whole-answer : isBrought (a .unit) B (runOf c ∷ rs) ≡ true → fragment a area c .answer ≡ done (returned N (begin a area c .seat) (length B))
+  whole-answer : isBrought (a .fragmentSize) B (runOf c ∷ rs) ≡ true → fragment a area c .answer ≡ done (returned N (begin a area c .seat) (length B))
   whole-answer e =
       ends-returned a area c (v .ok) ok (same-all ∙ e) .0
       ∙ ap (λ (n : ℕ). done (returned n (begin a area c .seat) (begin a area c .place .size))) cn
       ∙ ap (λ (n : ℕ). done (returned N (begin a area c .seat) n)) (y .size)
 
-  not-answer : isBrought (a .unit) B (runOf c ∷ rs) ≡ false → returns N (fragment a area c .answer) ≡ false
+  not-answer : isBrought (a .fragmentSize) B (runOf c ∷ rs) ≡ false → returns N (fragment a area c .answer) ≡ false
   unfolding accepted
   not-answer e =
       ap (λ (o : After). returns N (o .answer)) (fragment-accepted a area c ok)
       ∙ ap (λ (x : Settled). returns N (done (x .answer))) (finish-not a (run a c (begin a area c)) (same-all ∙ e))
       ∙ settle-silent (a .reliable) N (set (a .places) (run a c (begin a area c) .seat) (run a c (begin a area c) .place))
 
-  whole-bytes : isBrought (a .unit) B (runOf c ∷ rs) ≡ true → take (length B) (drop (begin a area c .seat * a .room) (fragment a area c .area)) ≡ B
+  whole-bytes : isBrought (a .fragmentSize) B (runOf c ∷ rs) ≡ true → take (length B) (drop (begin a area c .seat * a .placeSize) (fragment a area c .area)) ≡ B
   unfolding accepted
   whole-bytes e =
-      ap (λ (o : After). take (length B) (drop (begin a area c .seat * a .room) (o .area))) (fragment-accepted a area c ok)
+      ap (λ (o : After). take (length B) (drop (begin a area c .seat * a .placeSize) (o .area))) (fragment-accepted a area c ok)
       ∙ ran-whole N B a area rs c (v .ok) q cut (begin a area c) b y e
 
   delivers : Delivered N B (moment a area) rs c
   delivers =
       record {
         exactly =
-            split (isBrought (a .unit) B (runOf c ∷ rs))
+            split (isBrought (a .fragmentSize) B (runOf c ∷ rs))
             (λ e. ap (returns N) (whole-answer e) ∙ eq-eqb N N refl ∙ sym e)
             (λ e. not-answer e ∙ sym e);
         bytes = λ e. (
@@ -374,7 +374,7 @@ module _ (N : ℕ) (B : List ℕ) (a : Assembler) (area : List ℕ) (rs : List R
       }
 
   -- not returned: it is in assembly, with one run more
-  own-seated : isBrought (a .unit) B (runOf c ∷ rs) ≡ false → lower N (accepted a area c .state .places) < 128
+  own-seated : isBrought (a .fragmentSize) B (runOf c ∷ rs) ≡ false → lower N (accepted a area c .state .places) < 128
       → Seated N B (accepted a area c .state) (accepted a area c .area) (runOf c ∷ rs) (c .time) (begin a area c .seat)
   unfolding accepted run
   own-seated e low =
@@ -430,7 +430,7 @@ abbrev InvO : ℕ → List ℕ → After → List Run → ℕ → Type 0
 InvO N B o rs t = Inv N B (o .state) (o .area) rs t
 
 inv-own : (N : ℕ) (B : List ℕ) (a : Assembler) (area : List ℕ) (rs : List Run) (t : ℕ) (c : Call) → Inv N B a area rs t → c .number ≡ N
-    → refusal a (length area) c ≡ 0 → Cut (a .unit) B c → returns N (fragment a area c .answer) ≡ false → lower N (fragment a area c .state .places) < 128
+    → refusal a (length area) c ≡ 0 → Cut (a .fragmentSize) B c → returns N (fragment a area c .answer) ≡ false → lower N (fragment a area c .state .places) < 128
     → InvO N B (fragment a area c) (runOf c ∷ rs) (c .time)
 unfolding accepted
 inv-own N B a area rs t c v cn ok cut silent low =
@@ -512,7 +512,7 @@ kept-along some (other {m = m} {rs = rs} {time = t} h e o low) = inv-event _ _ m
 
 -- "Whatever else arrives, the call bringing its last missing fragment returns it, if accepted; no call before does, and its bytes are the sender's."
 pub not-starved : {N : ℕ} {B : List ℕ} {m : Moment} {rs : List Run} {time : ℕ} → Chain N B m rs time
-    → (c : Call) → c .number ≡ N → Accepted m c → Cut (m .state .unit) B c → Delivered N B m rs c
+    → (c : Call) → c .number ≡ N → Accepted m c → Cut (m .state .fragmentSize) B c → Delivered N B m rs c
 not-starved {m = m} {rs = rs} {time = time} h c cn ok cut =
     let some : 0 < c .number = passed (m .state) (length (m .area)) c ok .low in
     delivers _ _ (m .state) (m .area) rs time c (kept-along (subst (λ (n : ℕ). 0 < n) cn some) h) cn ok cut
@@ -524,7 +524,7 @@ others-silent N time m (arrives c) g o =
     (λ ok.
     ⊎-elim
     (λ nn.
-    split (isWhole (m .state .unit) (run (m .state) c (begin (m .state) (m .area) c) .place))
+    split (isWhole (m .state .fragmentSize) (run (m .state) c (begin (m .state) (m .area) c) .place))
     (λ t. ap (returns N) (ends-returned (m .state) (m .area) c g ok t .0) ∙ ne-eqb (c .number) N nn)
     (λ t.
     ⊎-elim (λ f. ap (returns N) (ends-drops (m .state) (m .area) c g ok t f .0)) (λ f. ap (returns N) (ends-keeps (m .state) (m .area) c g ok t f .0))

@@ -77,12 +77,12 @@ begins-ok reliable = empty-ok 1 reliable 2 (omega arith) (omega arith) (omega ar
 pub record Comes (m : Moment) (c : Call) : Type 0 where
   number : c .number ≡ 200
   ok : Accepted m c
-  cut : Cut (m .state .unit) block c
+  cut : Cut (m .state .fragmentSize) block c
 
 -- the second fragment comes where the first was accepted, and does not return the block
 pub record Starved (m : Moment) : Type 0 where
   comes : Comes m two
-  last : isBrought (m .state .unit) block (runOf two ∷ (runOf (one 200) ∷ [])) ≡ true
+  last : isBrought (m .state .fragmentSize) block (runOf two ∷ (runOf (one 200) ∷ [])) ≡ true
   silent : returns 200 (said m (arrives two)) ≡ false
 
 -- the second fragment comes and returns the block, but the view shows these bytes

@@ -110,7 +110,7 @@ pub data Chain (N : ℕ) (B : List ℕ) : Moment → List Run → ℕ → Type 0
   -- "In reliable mode let a block open": it is not in assembly yet
   start : {m : Moment} {time : ℕ} → Ok (m .state) → m .state .reliable ≡ true → inAssembly (m .state .places) N ≡ false → Chain N B m [] time
   -- "all accepted fragments under its number are cut from it by the rule", "Until it is returned"
-  own : {m : Moment} {rs : List Run} {time : ℕ} → Chain N B m rs time → (c : Call) → c .number ≡ N → Accepted m c → Cut (m .state .unit) B c
+  own : {m : Moment} {rs : List Run} {time : ℕ} → Chain N B m rs time → (c : Call) → c .number ≡ N → Accepted m c → Cut (m .state .fragmentSize) B c
       → returns N (said m (arrives c)) ≡ false → Bounded N (after m (arrives c)) → Chain N B (after m (arrives c)) (runOf c ∷ rs) (c .time)
   -- "Whatever else arrives"
   other : {m : Moment} {rs : List Run} {time : ℕ} → Chain N B m rs time → (e : Event) → Other N time m e → Bounded N (after m e)
@@ -121,9 +121,9 @@ pub data Chain (N : ℕ) (B : List ℕ) : Moment → List Run → ℕ → Type 0
 -- an accepted fragment under N, cut from B, after such calls
 pub record Delivered (N : ℕ) (B : List ℕ) (m : Moment) (rs : List Run) (c : Call) : Type 0 where
   -- "the call bringing its last missing fragment returns it, if accepted; no call before does"
-  pub exactly : returns N (said m (arrives c)) ≡ isBrought (m .state .unit) B (runOf c ∷ rs)
+  pub exactly : returns N (said m (arrives c)) ≡ isBrought (m .state .fragmentSize) B (runOf c ∷ rs)
   -- "and its bytes are the sender's": what the view shows of the place and the length that the answer names is the block
-  pub bytes : isBrought (m .state .unit) B (runOf c ∷ rs) ≡ true
+  pub bytes : isBrought (m .state .fragmentSize) B (runOf c ∷ rs) ≡ true
       → (i : ℕ) × (said m (arrives c) ≡ done (returned N i (length B))) × (shown (m .state) (after m (arrives c) .area) i (length B) ≡ B)
 
 -- ---- the same of the public calls
@@ -137,7 +137,7 @@ isRefused (done f) = false
 pub data Calls (N : ℕ) (B : List ℕ) : List ℕ → List ℕ → List Run → ℕ → Type 0 where
   start : {w area : List ℕ} {time : ℕ} → Good w → stateOf w .reliable ≡ true → inAssembly (stateOf w .places) N ≡ false → Calls N B w area [] time
   own : {w area : List ℕ} {rs : List Run} {time : ℕ} → Calls N B w area rs time → (c : Call) (r : Answer) (w′ area′ : List ℕ) → Does w area c r w′ area′
-      → c .number ≡ N → isRefused (fateOf r) ≡ false → Cut (stateOf w .unit) B c → returns N (fateOf r) ≡ false → lower N (stateOf w′ .places) < 128
+      → c .number ≡ N → isRefused (fateOf r) ≡ false → Cut (stateOf w .fragmentSize) B c → returns N (fateOf r) ≡ false → lower N (stateOf w′ .places) < 128
       → Calls N B w′ area′ (runOf c ∷ rs) (c .time)
   other : {w area : List ℕ} {rs : List Run} {time : ℕ} → Calls N B w area rs time → (c : Call) (r : Answer) (w′ area′ : List ℕ) → Does w area c r w′ area′
       → (c .number ≡ N → ⊥) ⊎ (isRefused (fateOf r) ≡ true) → lower N (stateOf w′ .places) < 128 → Calls N B w′ area′ rs time
@@ -146,6 +146,6 @@ pub data Calls (N : ℕ) (B : List ℕ) : List ℕ → List ℕ → List Run →
 
 -- an accepted fragment under N, cut from B, after such calls: its answer, and what the view shows on the words and the area that it left
 pub record Answered (N : ℕ) (B : List ℕ) (w : List ℕ) (rs : List Run) (c : Call) (r : Answer) (w′ area′ : List ℕ) : Type 0 where
-  pub exactly : returns N (fateOf r) ≡ isBrought (stateOf w .unit) B (runOf c ∷ rs)
-  pub bytes : isBrought (stateOf w .unit) B (runOf c ∷ rs) ≡ true
+  pub exactly : returns N (fateOf r) ≡ isBrought (stateOf w .fragmentSize) B (runOf c ∷ rs)
+  pub bytes : isBrought (stateOf w .fragmentSize) B (runOf c ∷ rs) ≡ true
       → (i : ℕ) × (fateOf r ≡ done (returned N i (length B))) × (shown (stateOf w′) area′ i (length B) ≡ B)

@@ -17,13 +17,13 @@ ghost use Rattle.receiver.specs.AssemblerExports.{happened, SetsUpOut, D
 #[no_mangle]
 pub extern "C" fn drucenal_assembler_set_up(
     words: &mut [u64],
-    unit: u16,
+    fragment_size: u16,
     reliable: bool,
-    room: u32,
+    place_size: u32,
 ) -> u32
-    ensures { λ r. ⌜ SetsUpOut (now (words .entry)) unit reliable room r (now (words .exit)) ⌝ }
+    ensures { λ r. ⌜ SetsUpOut (now (words .entry)) «fragment_size» reliable «place_size» r (now (words .exit)) ⌝ }
 {
-    match fragment_assembler::set_up(words, unit, reliable, room) {
+    match fragment_assembler::set_up(words, fragment_size, reliable, place_size) {
         Start::Refused(n) => n as u32,
         Start::Ready => 0,
     }
@@ -36,7 +36,7 @@ pub extern "C" fn drucenal_assembler_new_datafrag(
     time: u64,
     number: i64,
     size: u16,
-    total: u32,
+    data_size: u32,
     start: u32,
     count: u16,
     payload: &[u8],
@@ -46,7 +46,7 @@ pub extern "C" fn drucenal_assembler_new_datafrag(
     length: &mut u32,
 ) -> u32
     requires { ⌜ Good (now words) ⌝ }
-    ensures { λ r. ⌜ DoesOut (now (words .entry)) (now (area .entry)) (callOf time (numberOf number) size total start count (now (payload .entry))) (happened (now (what .entry)) (now (of .entry)) (now (place .entry)) (now (length .entry))) r (happened (now (what .exit)) (now (of .exit)) (now (place .exit)) (now (length .exit))) (now (words .exit)) (now (area .exit)) ⌝ }
+    ensures { λ r. ⌜ DoesOut (now (words .entry)) (now (area .entry)) (callOf time (numberOf number) size «data_size» start count (now (payload .entry))) (happened (now (what .entry)) (now (of .entry)) (now (place .entry)) (now (length .entry))) r (happened (now (what .exit)) (now (of .exit)) (now (place .exit)) (now (length .exit))) (now (words .exit)) (now (area .exit)) ⌝ }
 {
     let mut kind: u32 = 0;
     let mut whose: u64 = 0;
@@ -58,7 +58,7 @@ pub extern "C" fn drucenal_assembler_new_datafrag(
         time,
         number,
         size,
-        total,
+        data_size,
         start,
         count,
         payload,
@@ -97,7 +97,7 @@ pub extern "C" fn drucenal_assembler_view(
 ) -> usize
     requires { ⌜ Good (now words) ⌝ }
     ensures { λ r. ⌜ r ≡ lists.length (shown (stateOf (now (words .entry))) (now (area .entry)) place length) ⌝ }
-    ensures { λ r. ⌜ shown (stateOf (now (words .entry))) (now (area .entry)) place length ≡ lists.take r (lists.drop (place * stateOf (now (words .entry)) .room) (now (area .entry))) ⌝ }
+    ensures { λ r. ⌜ shown (stateOf (now (words .entry))) (now (area .entry)) place length ≡ lists.take r (lists.drop (place * stateOf (now (words .entry)) .placeSize) (now (area .entry))) ⌝ }
 {
     fragment_assembler::view(words, area, place, length).len()
 }

@@ -83,8 +83,8 @@ module _ (a : Assembler) (area : List ℕ) (number : ℤ) (fits : SFits w64 numb
   unfolding rows
   call-rows =
       let N : ℕ = numberOf number in
-      let f : ℕ = a .unit in
-      asks-less numbered refl (length area) (129 * a .room)
+      let f : ℕ = a .fragmentSize in
+      asks-less numbered refl (length area) (129 * a .placeSize)
       (λ h.
       asks numbered refl (eqb N 0 || leb top N)
       (λ t. row-holds number fits (not-true (isNumber number) (sym (number-row number) ∙ t)))
@@ -98,8 +98,8 @@ module _ (a : Assembler) (area : List ℕ) (number : ℤ) (fits : SFits w64 numb
       asks numbered refl (not (has (a .places) N) && ltb D f)
       (open-holds D f (has (a .places) N) (inAssembly (a .places) N) q) (open-fails D f (has (a .places) N) (inAssembly (a .places) N) q)
       (λ v.
-      asks numbered refl (not (has (a .places) N) && ltb (a .room) D)
-      (open-holds (a .room) D (has (a .places) N) (inAssembly (a .places) N) q) (open-fails (a .room) D (has (a .places) N) (inAssembly (a .places) N) q)
+      asks numbered refl (not (has (a .places) N) && ltb (a .placeSize) D)
+      (open-holds (a .placeSize) D (has (a .places) N) (inAssembly (a .places) N) q) (open-fails (a .placeSize) D (has (a .places) N) (inAssembly (a .places) N) q)
       (λ w.
       asks numbered refl (not (has (a .places) N) && ltb 256 (fragments D f))
       (open-holds 256 (fragments D f) (has (a .places) N) (inAssembly (a .places) N) q)

@@ -28,18 +28,18 @@ use Rattle.sequence_number.proofs.NumberLaws.{end-top}
 use Rattle.proxy_core.proofs.CallsLaws.{received-number, range-number, received-refused-same, range-refused-same}
 use Rattle.writer_proxy.proofs.MissingLaws.{missing-number, missing-refused-same}
 use Rattle.replay_lines.specs.Hex.{digitOf, allHex, valueAt}
-use Rattle.replay_lines.specs.Frame.{frameOf, parsed}
+use Rattle.replay_lines.specs.Frame.{readOf, frameOf, parsed}
 use Rattle.replay_lines.specs.Decimal.{lineOf}
 use Rattle.replay_lines.specs.Answer.{Step, Answer, counted, stepOf, textOf, given, answered, Answered}
-use Rattle.replay_lines.specs.Feed.{Run, AfterPiece, took, says, runOf, fed, Fed-to}
+use Rattle.replay_lines.specs.Feed.{Run, AfterPiece, took, says, fedOf, runOf, fed, Fed-to}
 use Rattle.replay_lines.specs.declared.frame.Frame.{Frame}
 use Rattle.replay_lines.specs.declared.frame.Frame.the-variants.{Received, Range, Missing}
 use Rattle.replay_lines.specs.declared.frame.Parsed.{Parsed}
 use Rattle.replay_lines.specs.declared.frame.Parsed.the-variants.{Malformed, Reads}
 use Rattle.replay_lines.specs.declared.feed.Fed.{Fed}
 use Rattle.replay_lines.proofs.HexLaws.{digit-low, digit-decimal, digit-between, digit-upper, digit-between-cases, digit-lower, digit-high, hex-at, value-none, value-more, value-fits}
-use Rattle.replay_lines.proofs.FrameLaws.{parsed-length, parsed-digit, parsed-frame, frame-other, frame-received, frame-range, frame-missing}
-use Rattle.refusals.specs.RefusalTable.{Row, Verdict, accepted, refused, Exactly, Refuses, verdict, numbered, readAs, fedAs, Digit, WellFormed, malformed, frameRows, lineRows, AnswerLine, answerRows, feedRows}
+use Rattle.replay_lines.proofs.FrameLaws.{parsed-length, parsed-digit, parsed-frame, parsed-as, frame-other, frame-received, frame-range, frame-missing}
+use Rattle.refusals.specs.RefusalTable.{Row, Verdict, accepted, refused, Exactly, Refuses, verdict, numbered, Digit, WellFormed, malformed, frameRows, lineRows, AnswerLine, answerRows, feedRows}
 use Rattle.refusals.proofs.RowLaws.{none-left, holds, passes, asks, asks-not, asks-less, not-refused, by-number}
 use Rattle.refusals.proofs.ProxyRows.{row-holds, row-fails, below-holds, below-fails}
 
@@ -76,7 +76,7 @@ unfolding allHex
 all-digits [] f = refl
 all-digits (c ∷ s) f = rw (ne-eqb (digitOf c) 16 (digit-counts c (f 0 (omega arith)))) (all-digits s (λ i h. f (suc i) (omega arith)))
 
-not-both : (frame : Frame) → Malformed ≡ Reads frame → ⊥
+not-both : (frame : Frame) → outcome.refused 1 ≡ outcome.done frame → ⊥
 not-both frame e = let z : _≡_ {A = ℕ} 0 1 = cc in omega arith
 
 -- a digit below ten
@@ -97,7 +97,7 @@ module _ (line : List ℕ) where
   second = valueAt line 18 16
 
   -- a line that reads has its length and its digits
-  reads-digits : (frame : Frame) → parsed line ≡ Reads frame → (length line ≡ 34) × (allHex line ≡ true)
+  reads-digits : (frame : Frame) → parsed line ≡ outcome.done frame → (length line ≡ 34) × (allHex line ≡ true)
   reads-digits frame e =
       ⊎-elim
       (λ l.
@@ -108,16 +108,16 @@ module _ (line : List ℕ) where
   kind-digits : kind ≡ digitOf (getD line 0 0) * 16 + digitOf (getD line 1 0)
   kind-digits = omega (arith, value-none line 0, value-more line 0 0, value-more line 0 1)
 
-  reads-kind : (frame : Frame) → parsed line ≡ Reads frame → (1 ≤ kind) × (kind ≤ 3)
+  reads-kind : (frame : Frame) → parsed line ≡ outcome.done frame → (1 ≤ kind) × (kind ≤ 3)
   reads-kind frame e =
       let r = reads-digits frame e in
-      let f : frameOf kind first second ≡ Reads frame = parsed-frame line (r .0) (r .1) ∙ e in
-      let other : (kind ≡ 1 → ⊥) → (kind ≡ 2 → ⊥) → (kind ≡ 3 → ⊥) → ⊥ = λ a b c. not-both frame (frame-other kind first second a b c ∙ f) in (
+      let f : readOf (frameOf kind first second) ≡ outcome.done frame = parsed-frame line (r .0) (r .1) ∙ e in
+      let other : (kind ≡ 1 → ⊥) → (kind ≡ 2 → ⊥) → (kind ≡ 3 → ⊥) → ⊥ = λ a b c. not-both frame (ap readOf (frame-other kind first second a b c) ∙ f) in (
         ⊎-elim (λ h. absurd (other (λ z. omega arith) (λ z. omega arith) (λ z. omega arith))) (λ h. h) (split-lt kind 1),
         ⊎-elim (λ h. absurd (other (λ z. omega arith) (λ z. omega arith) (λ z. omega arith))) (λ h. h) (split-lt 3 kind),
       )
 
-  reads-form : (frame : Frame) → parsed line ≡ Reads frame → WellFormed line
+  reads-form : (frame : Frame) → parsed line ≡ outcome.done frame → WellFormed line
   reads-form frame e =
       let r = reads-digits frame e in
       let k = reads-kind frame e in
@@ -131,55 +131,56 @@ module _ (line : List ℕ) where
         second = (omega (arith, kind-digits, k .0, k .1), omega (arith, kind-digits, k .1));
       }
 
-  form-reads : WellFormed line → parsed line ≡ Malformed → ⊥
+  form-reads : WellFormed line → parsed line ≡ outcome.refused 1 → ⊥
   form-reads w e =
       let a : allHex line ≡ true = all-digits line (λ i h. w .digits i (omega (arith, w .long))) in
-      let f : frameOf kind first second ≡ Malformed = parsed-frame line (w .long) a ∙ e in
+      let f : readOf (frameOf kind first second) ≡ outcome.refused 1 = parsed-frame line (w .long) a ∙ e in
       let x = toZ w64 first in
       let y = toZ w64 second in
       let c = digit-decimal (getD line 0 0) (omega (arith, w .first)) (omega (arith, w .first)) in
       let d = digit-decimal (getD line 1 0) (omega (arith, w .second .0)) (omega (arith, w .second .1)) in
-      ⊎-elim (λ k. not-both (Received x second) (sym (frame-received kind first second x k refl ∙ f)))
+      ⊎-elim (λ k. not-both (Received x second) (sym (ap readOf (frame-received kind first second x k refl) ∙ f)))
       (λ k.
-      ⊎-elim (λ m. not-both (Range x y) (sym (frame-range kind first second x y k m refl refl ∙ f)))
+      ⊎-elim (λ m. not-both (Range x y) (sym (ap readOf (frame-range kind first second x y k m refl refl) ∙ f)))
       (λ m.
       not-both (Missing x y)
-      (sym (frame-missing kind first second x y k m (omega (arith, kind-digits, w .first, w .second .0, w .second .1)) refl refl ∙ f)))
+      (sym (ap readOf (frame-missing kind first second x y k m (omega (arith, kind-digits, w .first, w .second .0, w .second .1)) refl refl) ∙ f)))
       (split-eq kind 2))
       (split-eq kind 1)
 
   -- a received number that was read is an i64
-  received-fits : (n : ℤ) (t : ℕ) → parsed line ≡ Reads (Received n t) → SFits w64 n
+  received-fits : (n : ℤ) (t : ℕ) → parsed line ≡ outcome.done (Received n t) → SFits w64 n
   received-fits n t e =
       let r = reads-digits (Received n t) e in
       let w = reads-kind (Received n t) e in
-      let f : frameOf kind first second ≡ Reads (Received n t) = parsed-frame line (r .0) (r .1) ∙ e in
+      let f : readOf (frameOf kind first second) ≡ outcome.done (Received n t) = parsed-frame line (r .0) (r .1) ∙ e in
       let x = toZ w64 first in
       let y = toZ w64 second in
       ⊎-elim
       (λ k.
-      let same : Reads (Received x second) ≡ Reads (Received n t) = frame-received kind first second x k refl ∙ f in
+      let same : outcome.done (Received x second) ≡ outcome.done (Received n t) = ap readOf (frame-received kind first second x k refl) ∙ f in
       let z : x ≡ n = cc in
       let l : first < 2 ^ 64 = value-fits line 2 16 (r .1) (omega (arith, r .0)) (omega arith) in
       subst (SFits w64) z (sfits-toZ {w = w64} {n = first} (record { fits = l })))
       (λ k.
       ⊎-elim
       (λ m.
-      let same : Reads (Range x y) ≡ Reads (Received n t) = frame-range kind first second x y k m refl refl ∙ f in
+      let same : outcome.done (Range x y) ≡ outcome.done (Received n t) = ap readOf (frame-range kind first second x y k m refl refl) ∙ f in
       let z : _≡_ {A = ℕ} 0 1 = cc in absurd (omega arith))
       (λ m.
-      let same : Reads (Missing x y) ≡ Reads (Received n t) = frame-missing kind first second x y k m (omega (arith, w .0, w .1)) refl refl ∙ f in
+      let same : outcome.done (Missing x y) ≡ outcome.done (Received n t) = ap readOf (frame-missing kind first second x y k m (omega (arith, w .0, w .1)) refl refl) ∙ f in
       let z : _≡_ {A = ℕ} 0 1 = cc in absurd (omega arith))
       (split-eq kind 2))
       (split-eq kind 1)
 
   -- the first row, of a line that reads as it does
-  read-rows : (p : Parsed) → parsed line ≡ p → (v : Verdict) (rows : List Row) → (p ≡ Malformed → v ≡ refused 1) → ((frame : Frame) → p ≡ Reads frame → Exactly v rows)
+  read-rows : (p : Parsed) → parsed line ≡ readOf p → (v : Verdict) (rows : List Row) → (readOf p ≡ outcome.refused 1 → v ≡ refused 1)
+      → ((frame : Frame) → readOf p ≡ outcome.done frame → Exactly v rows)
       → Exactly v (malformed line ∷ rows)
   read-rows Malformed e v rows bad good = rw (bad refl) (holds 1 (WellFormed line → ⊥) rows (λ w. form-reads w e))
   read-rows (Reads frame) e v rows bad good = passes 1 (WellFormed line → ⊥) rows (λ f. f (reads-form frame e)) (good frame refl)
 
-  pub parse-rows : (r : Parsed) → r ≡ parsed line → Exactly (readAs r) (malformed line ∷ [])
+  pub parse-rows : (r : Parsed) → readOf r ≡ parsed line → Exactly (verdict (readOf r)) (malformed line ∷ [])
   parse-rows Malformed e = read-rows Malformed (sym e) (refused 1) [] (λ z. refl) (λ frame z. absurd (not-both frame z))
   parse-rows (Reads frame) e = read-rows (Reads frame) (sym e) accepted [] (λ z. absurd (not-both frame (sym z))) (λ f z. none-left)
 
@@ -201,7 +202,7 @@ record Shows (x : Step) (rows : List Row) (s : State) (list : List ℤ) : Type 0
   refuses : Refuses (numbered number) rows ((x .state ≡ s) × (x .list ≡ list))
 
 module _ (line : List ℕ) (s : State) (list : List ℤ) where
-  shows : (p : Parsed) → parsed line ≡ p → Shows (stepOf p s list) (lineRows line s list) s list
+  shows : (p : Parsed) → parsed line ≡ readOf p → Shows (stepOf (readOf p) s list) (lineRows line s list) s list
   unfolding stepOf
   shows Malformed e =
       record {
@@ -272,7 +273,8 @@ module _ (line : List ℕ) (s : State) (list : List ℤ) where
   step-line : {W L : Type 0} → (stepOf (parsed line) s list .state ≡ s → W) → (stepOf (parsed line) s list .list ≡ list → L)
       → AnswerLine (lineRows line s list) (textOf (stepOf (parsed line) s list)) (W × L)
   step-line words lists =
-      let t = shows (parsed line) refl in
+      let p = parsed-as line in
+      let t = rw (p .1) at (shows (p .0) (sym (p .1))) in
       record {
         kind = stepOf (parsed line) s list .kind;
         number = t .number;
@@ -289,7 +291,7 @@ module _ (line : List ℕ) (s : State) (list : List ℤ) where
 
 module _ (w line : List ℕ) (list : List ℤ) (out : List ℕ) where
   abbrev answerSays : Answer → Verdict
-  answerSays a = verdict (wrote (a .written))
+  answerSays a = verdict (a .written)
 
   call-rows : Exactly (answerSays (answered w line list out)) (answerRows list out)
   unfolding answered
@@ -333,7 +335,7 @@ module _ (w w′ line : List ℕ) (list list′ : List ℤ) (out out′ : List �
       let x : Step = stepOf (parsed line) (stateOf w) list in
       let z : answered w line list out ≡ given x out = call-gives w line list out (rw (a .written) at e) in (
         textOf x,
-        ap wrote (a .written ∙ ap (λ (y : Answer). y .written) z),
+        a .written ∙ ap (λ (y : Answer). y .written) z,
         a .out-is ∙ ap (λ (y : Answer). y .out) z,
         step-line line (stateOf w) list
             (λ h. a .words-are ∙ ap (λ (y : Answer). y .words) z ∙ ap recordOf h ∙ sym (g .made)) (λ h. a .list-is ∙ ap (λ (y : Answer). y .list) z ∙ h),
@@ -347,7 +349,7 @@ feed-line x g = step-line (take (x .count) (x .held)) (stateOf (x .words)) (x .l
 module _ (w w′ : List ℕ) (list list′ : List ℤ) (held held′ : List ℕ) (count : ℕ) (piece out out′ : List ℕ) (r : Fed)
     (a : Fed-to r w′ list′ held′ out′ (fed (runOf w list held count) piece out)) where
   abbrev fedSays : AfterPiece → Verdict
-  fedSays x = fedAs (x .answer)
+  fedSays x = verdict (x .answer)
 
   abbrev whole : AfterPiece
   whole = fed (runOf w list held count) piece out
@@ -368,7 +370,7 @@ module _ (w w′ : List ℕ) (list list′ : List ℤ) (held held′ : List ℕ)
       (λ j. split (ltb (length out) 5148) (λ k. rw (h, i, j, k) (refl, refl))
       (λ k. absurd (not-refused n (rw (h, i, j, k) at e))))))
 
-  pub feed-rows : Refuses (fedAs r) (feedRows list held count out) ((w′ ≡ w) × (list′ ≡ list) × (held′ ≡ held) × (out′ ≡ out))
+  pub feed-rows : Refuses (verdict (fedOf r)) (feedRows list held count out) ((w′ ≡ w) × (list′ ≡ list) × (held′ ≡ held) × (out′ ≡ out))
   feed-rows =
       record {
         exactly = rw (a .answer-is) fed-rows;

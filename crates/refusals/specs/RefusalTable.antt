@@ -59,15 +59,14 @@ use Rattle.fragment_assembler.specs.declared.Start.{Start}
 use Rattle.fragment_assembler.specs.declared.Answer.{Answer}
 use Rattle.fragment_assembler.specs.declared.Cleaned.{Cleaned}
 use Rattle.fragment_assembler.specs.declared.Listing as assembler-listing
-use Rattle.replay_lines.specs.Frame.{parsed}
+use Rattle.replay_lines.specs.Frame.{readOf, parsed}
 use Rattle.replay_lines.specs.Decimal.{lineOf}
 use Rattle.replay_lines.specs.Answer.{answered, Answered}
-use Rattle.replay_lines.specs.Feed.{Run, took, says, fed, runOf, Fed-to}
+use Rattle.replay_lines.specs.Feed.{Run, took, says, fedOf, fed, runOf, Fed-to}
+use Rattle.replay_lines.specs.declared.frame.Frame.{Frame}
 use Rattle.replay_lines.specs.declared.frame.Frame.the-variants.{Received, Range, Missing}
 use Rattle.replay_lines.specs.declared.frame.Parsed.{Parsed}
-use Rattle.replay_lines.specs.declared.frame.Parsed.the-variants.{Malformed, Reads}
 use Rattle.replay_lines.specs.declared.feed.Fed.{Fed}
-use Rattle.replay_lines.specs.declared.feed.Fed.the-variants as Fed
 
 -- ==== A row, and what the table says of a call
 
@@ -216,7 +215,7 @@ missingRows start end s out = row 4 (end ≡ pos (2 ^ 63 - 1)) ∷ shorter out (
 
 -- `all_ackable_before`, `last_change`, `change_status`, `should_ignore_change` and the acknack counter have no refusal.
 
--- ==== The assembler (crate fragment_assembler): f is `unit`, p is `room`; a fragment has its own size, the data size D, start k and n fragments
+-- ==== The assembler (crate fragment_assembler): f is `fragmentSize`, p is `placeSize`; a fragment has its own size, the data size D, start k and n fragments
 
 -- "setting up: f is 0, or p is 0 or above 65,536 (added)", then the record's words
 abbrev pub setUpRows : ℕ → Bool → ℕ → List ℕ → List Row
@@ -234,36 +233,27 @@ sampleSize a number D = cond (inAssembly (a .places) (numberOf number)) (at (a .
 abbrev pub fragmentRows : Assembler → List ℕ → ℤ → ℕ → ℕ → ℕ → ℕ → List Row
 fragmentRows a area number size D k n =
     -- "area shorter than 129*p (added)"
-    row 13 (length area < 129 * a .room)
+    row 13 (length area < 129 * a .placeSize)
     ∷ notTaken number
     -- "fragment's size differs from f (added)"
-    ∷ row 6 (size ≡ a .unit → ⊥)
+    ∷ row 6 (size ≡ a .fragmentSize → ⊥)
     -- "opening, f > D"
-    ∷ row 7 (Opening a number × (D < a .unit))
+    ∷ row 7 (Opening a number × (D < a .fragmentSize))
     -- "opening, D > p (added)"
-    ∷ row 8 (Opening a number × (a .room < D))
+    ∷ row 8 (Opening a number × (a .placeSize < D))
     -- "opening, F > 256 (added)"
-    ∷ row 9 (Opening a number × (256 < fragments D (a .unit)))
+    ∷ row 9 (Opening a number × (256 < fragments D (a .fragmentSize)))
     -- "run of 0 fragments"
     ∷ row 10 (n ≡ 0)
     -- "start 0"
     ∷ row 11 (k ≡ 0)
     -- "k - 1 + n > F"
-    ∷ row 12 (fragments (sampleSize a number D) (a .unit) < k - 1 + n)
+    ∷ row 12 (fragments (sampleSize a number D) (a .fragmentSize) < k - 1 + n)
     ∷ []
 
 -- `view`, `is_partially_received` and `in_assembly` have no refusal.
 
 -- ==== Replay lines (crate replay_lines)
-
--- what the answers say
-abbrev pub readAs : Parsed → Verdict
-readAs Malformed = refused 1
-readAs (Reads frame) = accepted
-
-abbrev pub fedAs : Fed → Verdict
-fedAs (Fed.Refused n) = refused n
-fedAs (Fed.Took taken count wrote) = accepted
 
 -- a hexadecimal digit "of either case": `0` to `9`, `A` to `F`, `a` to `f`
 abbrev pub Digit : ℕ → Type 0
@@ -281,11 +271,11 @@ abbrev pub malformed : List ℕ → Row
 malformed line = row 1 (WellFormed line → ⊥)
 
 -- the rows of the call that a line asks for: "01 received (number, time), 02 range (a, b), 03 missing (start, end; room 256)"
-abbrev pub frameRows : Parsed → State → List ℤ → List Row
-frameRows Malformed s list = []
-frameRows (Reads (Received number time)) s list = notTaken number ∷ []
-frameRows (Reads (Range a b)) s list = rangeRows a b
-frameRows (Reads (Missing start end)) s list = missingRows start end s (take 256 list)
+abbrev pub frameRows : Outcome Frame → State → List ℤ → List Row
+frameRows (outcome.refused n) s list = []
+frameRows (outcome.done (Received number time)) s list = notTaken number ∷ []
+frameRows (outcome.done (Range a b)) s list = rangeRows a b
+frameRows (outcome.done (Missing start end)) s list = missingRows start end s (take 256 list)
 
 abbrev pub lineRows : List ℕ → State → List ℤ → List Row
 lineRows line s list = malformed line ∷ frameRows (parsed line) s list
@@ -298,7 +288,8 @@ pub record AnswerLine (rows : List Row) (text : List ℕ) (Untouched : Type 0) :
   pub line : text ≡ lineOf kind (number ∷ rest)
   pub refuses : Refuses (numbered number) rows Untouched
 
--- 3, of the call itself: the list is below 256 entries, or the buffer might not hold an answer, which has at most 5,148 bytes
+-- 3, by conditions of the call itself and not by the table's row (docs/PROMISES.md, Exceptions): the list is below 256 entries,
+-- or the buffer might not hold an answer, which has at most 5,148 bytes
 abbrev pub answerRows : List ℤ → List ℕ → List Row
 answerRows list out = row 3 (length list < 256) ∷ row 3 (length out < 5148) ∷ []
 
@@ -367,7 +358,7 @@ pub record RefusalTable : Type 1 where
   pub missing-frags-for : (w : List ℕ) (number : ℤ) (out after : List ℕ) (r : assembler-listing.Listing) → assembler-rules.Good w → Misses w (numberOf number) out r after
       → Refuses (verdict (listedOf r)) (shorter out (missing (assembler.stateOf w) (numberOf number)) ∷ []) (after ≡ out)
   -- replay_lines: the proxy's record w, the lent list and the buffer; a line stands without its line feed
-  pub parse : (line : List ℕ) (r : Parsed) → r ≡ parsed line → Exactly (readAs r) (malformed line ∷ [])
+  pub parse : (line : List ℕ) (r : Parsed) → readOf r ≡ parsed line → Exactly (verdict (readOf r)) (malformed line ∷ [])
   pub answer-line : (w w′ line : List ℕ) (list list′ : List ℤ) (out out′ : List ℕ) (r : Written) → Good w
       → Answered r w′ list′ out′ (answered w line list out) → Refuses (verdict (wrote r)) (answerRows list out) ((w′ ≡ w) × (list′ ≡ list) × (out′ ≡ out))
   pub answer-line-says : (w w′ line : List ℕ) (list list′ : List ℤ) (out out′ : List ℕ) (r : Written) → Good w
@@ -376,7 +367,7 @@ pub record RefusalTable : Type 1 where
       × AnswerLine (lineRows line (stateOf w) list) text ((w′ ≡ w) × (list′ ≡ list))
   pub feed : (w w′ : List ℕ) (list list′ : List ℤ) (held held′ : List ℕ) (count : ℕ) (piece out out′ : List ℕ) (r : Fed) → Good w
       → Fed-to r w′ list′ held′ out′ (fed (runOf w list held count) piece out)
-      → Refuses (fedAs r) (feedRows list held count out) ((w′ ≡ w) × (list′ ≡ list) × (held′ ≡ held) × (out′ ≡ out))
+      → Refuses (verdict (fedOf r)) (feedRows list held count out) ((w′ ≡ w) × (list′ ≡ list) × (held′ ≡ held) × (out′ ≡ out))
   -- what a feed says at a line feed, 10, where x is lent and held
   pub feed-says : (x : Run) → Good (x .words)
       → AnswerLine (lineRows (take (x .count) (x .held)) (stateOf (x .words)) (x .list)) (says 10 x) ((took 10 x .words ≡ x .words) × (took 10 x .list ≡ x .list))

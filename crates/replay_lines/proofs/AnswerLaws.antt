@@ -22,13 +22,14 @@ use Rattle.writer_proxy.specs.Missing.{missingOf, listing, listed}
 use Rattle.writer_proxy.specs.declared.missing.Listing.{Listing}
 use Rattle.writer_proxy.specs.declared.missing.Listing.the-variants as Listing
 use Rattle.replay_lines.specs.Decimal.{started, lineOf}
-use Rattle.replay_lines.specs.Frame.{parsed}
+use Rattle.replay_lines.specs.Frame.{readOf, parsed}
 use Rattle.replay_lines.specs.declared.frame.Frame.{Frame}
 use Rattle.replay_lines.specs.declared.frame.Frame.the-variants.{Received, Range, Missing}
 use Rattle.replay_lines.specs.declared.frame.Parsed.{Parsed}
-use Rattle.replay_lines.specs.declared.frame.Parsed.the-variants.{Malformed, Reads}
+use Rattle.replay_lines.specs.declared.frame.Parsed.the-variants.{Malformed}
 use Rattle.replay_lines.specs.Answer as Lines
-use Rattle.replay_lines.specs.Answer.{room, enough, told, counted, toldMissing, stepOf, answered, Wrote, Did}
+use Rattle.replay_lines.specs.Answer.{room, enough, told, counted, toldMissing, stepOf, answered}
+use Rattle.replay_lines.specs.Inner.{Wrote, Did}
 use Rattle.replay_lines.proofs.DecimalLaws.{Begun}
 
 -- the line feed
@@ -127,17 +128,17 @@ did-told n kind x r w list out out′ a t = record {
 
 module _ (n : ℕ) (frame : Frame) (s : State) (w : List ℕ) (list : List ℤ) (out out′ : List ℕ) where
   pub did-received : (r : Report) (a : ℤ) (t : ℕ) → frame ≡ Received a t → Answered r w (received a t s) → Wrote n out out′ 1 (refusal (reported r) ∷ stateOf w .base ∷ [])
-      → Did n w list out out′ (stepOf (Reads frame) s list)
+      → Did n w list out out′ (stepOf (done frame) s list)
   unfolding stepOf
   did-received r a t e x y = rw e (did-told n 1 (received a t s) r w list out out′ x y)
 
   pub did-range : (r : Report) (a z : ℤ) → frame ≡ Range a z → Answered r w (irrelevantRange a z s) → Wrote n out out′ 2 (refusal (reported r) ∷ stateOf w .base ∷ [])
-      → Did n w list out out′ (stepOf (Reads frame) s list)
+      → Did n w list out out′ (stepOf (done frame) s list)
   unfolding stepOf
   did-range r a z e x y = rw e (did-told n 2 (irrelevantRange a z s) r w list out out′ x y)
 
   pub did-missing : (list′ : List ℤ) (a z : ℤ) → frame ≡ Missing a z → w ≡ recordOf s → Wrote n out out′ 3 (toldMissing a z s list .after) → list′ ≡ toldMissing a z s list .list
-      → Did n w list′ out out′ (stepOf (Reads frame) s list)
+      → Did n w list′ out out′ (stepOf (done frame) s list)
   unfolding stepOf
   did-missing list′ a z e x y l = rw e (record { words-are = x; list-is = l; wrote = y })
 
@@ -157,10 +158,10 @@ module _ (words line : List ℕ) (list : List ℤ) (out : List ℕ) where
   unfolding answered
   given-line n words′ list′ out′ g h x =
       rw (le-ltb (length list) room g, le-ltb (length out) enough h)
-      (record { written = ap Written.Wrote (x .wrote .count); words-are = x .words-are; list-is = x .list-is; out-is = x .wrote .line })
+      (record { written = ap done (x .wrote .count); words-are = x .words-are; list-is = x .list-is; out-is = x .wrote .line })
 
   -- a line that does not read
   pub did-nothing : (n base : ℕ) (p : Parsed) (out′ : List ℕ) → Good words → p ≡ Malformed → base ≡ stateOf words .base → Wrote n out out′ 0 (1 ∷ base ∷ [])
-      → Did n words list out out′ (stepOf p (stateOf words) list)
+      → Did n words list out out′ (stepOf (readOf p) (stateOf words) list)
   unfolding stepOf
   did-nothing n base p out′ g e f w = rw e (record { words-are = g .made; list-is = refl; wrote = told-as n out out′ 0 1 base _ _ w refl f })

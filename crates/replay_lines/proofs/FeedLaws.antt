@@ -11,9 +11,11 @@ use lib.Dec.{ltb}
 use lib.IntN.{ℤ}
 use borrow.Author.Tests.{lt-ltb, le-ltb, eq-eqb, ne-eqb}
 use Rattle.sequence_number.specs.Lent.{over}
+use Rattle.sequence_number.specs.Outcome.{refused, done}
 use Rattle.sequence_number.proofs.Split.{split, split-lt}
-use Rattle.replay_lines.specs.Answer.{room, enough, Did}
-use Rattle.replay_lines.specs.Feed.{kept, Run, lineDoes, took, says, Progress, onward, goOn, begin, done, fed, runOf, Stepped, Fed-to}
+use Rattle.replay_lines.specs.Answer.{room, enough}
+use Rattle.replay_lines.specs.Feed.{kept, Run, lineDoes, took, says, Progress, onward, goOn, begin, tallyOf, fedOf, tallied, fed, runOf, Fed-to}
+use Rattle.replay_lines.specs.Inner.{Did, Stepped}
 use Rattle.replay_lines.specs.declared.feed.Held.{Held}
 use Rattle.replay_lines.specs.declared.feed.Fed.the-variants.{Refused, Took}
 
@@ -134,7 +136,7 @@ out-over out₀ out wrote f d =
     sym (take-append-drop wrote out) ∙ ap (λ (l : List ℕ). take wrote out ++ l) (d ∙ ap (λ (k : ℕ). drop k out₀) (sym (length-take-le wrote out f)))
 
 fed-done : (r : Run) (piece out : List ℕ) → room ≤ length (r .list) → kept ≤ length (r .held) → r .count ≤ kept → enough ≤ length out
-    → done (goOn (length out) piece (begin r)) out ≡ fed r piece out
+    → tallied (goOn (length out) piece (begin r)) out ≡ fed r piece out
 unfolding fed
 fed-done r piece out a d e f = rw (le-ltb (length (r .list)) room a, le-ltb (length (r .held)) kept d, le-ltb kept (r .count) e, le-ltb (length out) enough f)
 
@@ -146,15 +148,15 @@ pub piece-taken : (r : Run) (piece out₀ : List ℕ) (i : ℕ) (words : List �
 piece-taken r piece out₀ i words list held n wrote out a d e f g k p =
     let x = reached i words list held n wrote out in
     subst (λ (y : _). Fed-to (Took i n wrote) words list held out y)
-    (ap (λ (y : Progress). done y out₀) (sym p) ∙ fed-done r piece out₀ a d e f)
-    (record { answer-is = ap (Took i n) (sym (length-take-le wrote out g)); words-are = refl; list-is = refl; held-are = refl; out-is = out-over out₀ out wrote g k })
+    (ap (λ (y : Progress). tallied y out₀) (sym p) ∙ fed-done r piece out₀ a d e f)
+    (record { answer-is = ap (λ (k : ℕ). done (tallyOf i n k)) (sym (length-take-le wrote out g)); words-are = refl; list-is = refl; held-are = refl; out-is = out-over out₀ out wrote g k })
 
 -- a buffer that had room is not full before the first byte
 pub further : (i wrote size : ℕ) → (i ≡ 0 → wrote ≡ 0) → enough ≤ size → size - wrote < enough → 0 < i
 further i wrote size z f h = ⊎-elim (λ p. p) (λ q. let e : wrote ≡ 0 = z (omega arith) in absurd (omega arith)) (split-lt 0 i)
 
 -- a piece that was not refused
-pub fed-took : (r : Run) (piece out : List ℕ) (taken count wrote : ℕ) → Took taken count wrote ≡ fed r piece out .answer → fed r piece out ≡ done (goOn (length out) piece (begin r)) out
+pub fed-took : (r : Run) (piece out : List ℕ) (taken count wrote : ℕ) → fedOf (Took taken count wrote) ≡ fed r piece out .answer → fed r piece out ≡ tallied (goOn (length out) piece (begin r)) out
 unfolding fed
 fed-took r piece out taken count wrote e =
     split (ltb (length (r .list)) room) (λ a. absurd (not-refused (rw a at e)))
@@ -162,7 +164,7 @@ fed-took r piece out taken count wrote e =
     (λ d. split (ltb kept (r .count)) (λ f. absurd (not-refused (rw (a, d, f) at e)))
     (λ f. split (ltb (length out) enough) (λ g. absurd (not-refused (rw (a, d, f, g) at e))) (λ g. rw (a, d, f, g)))))
   where
-    not-refused : Took taken count wrote ≡ Refused 3 → ⊥
+    not-refused : done (tallyOf taken count wrote) ≡ refused 3 → ⊥
     not-refused z = let w : _≡_ {A = ℕ} 0 1 = cc in omega arith
 
 -- the refusals

@@ -1,6 +1,7 @@
 -- Laws of `specs/Frame.antt`: one for each answer of the code. Assumes nothing.
 use Prim.Native.Nat.{ℕ}
 use mathlib.Core.Path.{_≡_, ap, _∙_}
+use mathlib.Core.Logic.{⊎-elim}
 use mathlib.Core.Bool.{true, false}
 use mathlib.Core.List.{List}
 use lib.ListN.{length}
@@ -9,9 +10,12 @@ use mir.Syntax.{w64}
 use mir.Val.{Fits, ofZ, toZ}
 use mir.Facts.{ofZ-toZ}
 use borrow.Author.Tests.{eq-eqb, ne-eqb}
+use Rattle.sequence_number.specs.Outcome.{refused}
+use Rattle.sequence_number.proofs.Split.{split, split-eq}
 use Rattle.replay_lines.specs.Hex.{allHex, valueAt}
-use Rattle.replay_lines.specs.Frame.{frameOf, parsed}
+use Rattle.replay_lines.specs.Frame.{readOf, frameOf, parsed}
 use Rattle.replay_lines.specs.declared.frame.Frame.the-variants.{Received, Range, Missing}
+use Rattle.replay_lines.specs.declared.frame.Parsed.{Parsed}
 use Rattle.replay_lines.specs.declared.frame.Parsed.the-variants.{Malformed, Reads}
 
 -- a signed number as it comes out of a call
@@ -36,14 +40,21 @@ unfolding frameOf
 frame-other kind a b i j k = rw (ne-eqb kind 1 i, ne-eqb kind 2 j, ne-eqb kind 3 k)
 
 module _ (line : List ℕ) where
-  pub parsed-length : (length line ≡ 34 → ⊥) → Malformed ≡ parsed line
+  pub parsed-length : (length line ≡ 34 → ⊥) → refused 1 ≡ parsed line
   unfolding parsed
   parsed-length n = rw (ne-eqb (length line) 34 n)
 
-  pub parsed-digit : length line ≡ 34 → allHex line ≡ false → Malformed ≡ parsed line
+  pub parsed-digit : length line ≡ 34 → allHex line ≡ false → refused 1 ≡ parsed line
   unfolding parsed
   parsed-digit n a = rw (eq-eqb (length line) 34 n, a)
 
-  pub parsed-frame : length line ≡ 34 → allHex line ≡ true → frameOf (valueAt line 0 2) (valueAt line 2 16) (valueAt line 18 16) ≡ parsed line
+  pub parsed-frame : length line ≡ 34 → allHex line ≡ true → readOf (frameOf (valueAt line 0 2) (valueAt line 2 16) (valueAt line 18 16)) ≡ parsed line
   unfolding parsed
   parsed-frame n a = rw (eq-eqb (length line) 34 n, a)
+
+  -- every line is read as some answer of the code
+  pub parsed-as : (p : Parsed) × (readOf p ≡ parsed line)
+  parsed-as =
+      ⊎-elim (λ n. split (allHex line) (λ a. (frameOf (valueAt line 0 2) (valueAt line 2 16) (valueAt line 18 16), parsed-frame n a)) (λ a. (Malformed, parsed-digit n a)))
+      (λ n. (Malformed, parsed-length n))
+      (split-eq (length line) 34)

@@ -7,3 +7,4 @@ pub mod FeedLaws
 pub mod KnownValues
 pub mod ReplayLaws
 pub mod Promises
+pub mod Determined

@@ -8,40 +8,24 @@ use lib.ListN.{length, take, drop, take-append-drop}
 use lib.Seq.{take-all, take-at, length-take-le}
 use lib.IntN.{ℤ}
 use borrow.Author.Tests.{lt-ltb}
-use Rattle.sequence_number.specs.declared.wire.Written.{Written}
+use Rattle.sequence_number.specs.Outcome.{refused, done}
 use Rattle.sequence_number.proofs.Split.{split-lt}
-use Rattle.proxy_record.specs.State.{State, Ok}
+use Rattle.proxy_record.specs.State.{State, cap, Ok}
 use Rattle.proxy_record.specs.Record.{recordOf, stateOf}
 use Rattle.proxy_record.proofs.RecordLaws.{good-is}
-use Rattle.proxy_core.specs.Calls.{cap}
 use Rattle.writer_proxy.proofs.Promises.{record-reads-back}
 use Rattle.replay_lines.specs.Frame.{parsed}
-use Rattle.replay_lines.specs.Answer.{Step, textOf, stepOf, answered, Answered}
-use Rattle.replay_lines.specs.Feed.{kept, Run, lineDoes, took, says, goOn, begin, AfterPiece, fed, runOf, Fed-to}
+use Rattle.replay_lines.specs.Answer.{Step, textOf, stepOf}
+use Rattle.replay_lines.specs.Feed.{kept, Run, lineDoes, took, says, goOn, begin, Tally, tallyOf, AfterPiece, runOf}
 use Rattle.replay_lines.specs.Replay.{blank, lineStep, replayed, ran, said, NoFeed, Ready, Lines, recorded, linesOf, lacking, ranEach, saidEach, Calls}
 use Rattle.replay_lines.specs.Replay as replay
-use Rattle.replay_lines.specs.declared.feed.Fed.{Fed}
-use Rattle.replay_lines.specs.declared.feed.Fed.the-variants.{Took}
-use Rattle.replay_lines.specs.declared.frame.Parsed.the-variants.{Malformed}
 use Rattle.replay_lines.proofs.FrameLaws.{parsed-length}
 use Rattle.replay_lines.proofs.FeedLaws.{fed-took}
 use Rattle.replay_lines.proofs.StepLaws.{line-keeps, step-alike, step-length}
 use Rattle.replay_lines.proofs.ReplayLaws.{ran-append, said-append, line-held, ran-held, blank-long, some-held, recorded-more, lines-more, lastLine, parted, walk-ran}
 
--- Determination: "prove that two answers allowed by it are equal", with the record, the list and the buffer
-
-pub line-determined : (words line : List ℕ) (list : List ℤ) (out : List ℕ) (r r′ : Written) (w w′ : List ℕ) (l l′ : List ℤ) (o o′ : List ℕ)
-    → Answered r w l o (answered words line list out) → Answered r′ w′ l′ o′ (answered words line list out) → (r ≡ r′) × (w ≡ w′) × (l ≡ l′) × (o ≡ o′)
-line-determined words line list out r r′ w w′ l l′ o o′ a c =
-    (a .written ∙ sym (c .written), a .words-are ∙ sym (c .words-are), a .list-is ∙ sym (c .list-is), a .out-is ∙ sym (c .out-is))
-
-pub piece-determined : (x : Run) (piece out : List ℕ) (r r′ : Fed) (w w′ : List ℕ) (l l′ : List ℤ) (h h′ o o′ : List ℕ)
-    → Fed-to r w l h o (fed x piece out) → Fed-to r′ w′ l′ h′ o′ (fed x piece out) → (r ≡ r′) × (w ≡ w′) × (l ≡ l′) × (h ≡ h′) × (o ≡ o′)
-piece-determined x piece out r r′ w w′ l l′ h h′ o o′ a c =
-    (a .answer-is ∙ sym (c .answer-is), a .words-are ∙ sym (c .words-are), a .list-is ∙ sym (c .list-is), a .held-are ∙ sym (c .held-are), a .out-is ∙ sym (c .out-is))
-
 -- "A line that does not read gives `0 1` and the base", and changes nothing
-pub malformed-told : (line : List ℕ) (s : State) (list : List ℤ) → parsed line ≡ Malformed
+pub malformed-told : (line : List ℕ) (s : State) (list : List ℤ) → parsed line ≡ refused 1
     → (stepOf (parsed line) s list .state ≡ s) × (stepOf (parsed line) s list .kind ≡ 0) × (stepOf (parsed line) s list .after ≡ 1 ∷ s .base ∷ []) × (stepOf (parsed line) s list .list ≡ list)
 unfolding stepOf
 malformed-told line s list e = rw e (refl, refl, refl, refl)
@@ -166,10 +150,11 @@ calls-said (replay.Calls.finished r) = (refl, refl)
 calls-said (replay.Calls.call {r = r} {end = end} piece rest out words list held out′ taken count wrote {text = text} f k) =
     let x = goOn (length out) piece (begin r) in
     let d = fed-took r piece out taken count wrote (f .answer-is) in
-    let q : Took taken count wrote ≡ Took (x .taken) (x .run .count) (length (x .text)) = f .answer-is ∙ ap (λ (y : AfterPiece). y .answer) d in
-    let q-taken : taken ≡ x .taken = cc in
-    let q-count : count ≡ x .run .count = cc in
-    let q-wrote : wrote ≡ length (x .text) = cc in
+    let p : done (tallyOf taken count wrote) ≡ done (tallyOf (x .taken) (x .run .count) (length (x .text))) = f .answer-is ∙ ap (λ (y : AfterPiece). y .answer) d in
+    let q : tallyOf taken count wrote ≡ tallyOf (x .taken) (x .run .count) (length (x .text)) = cc in
+    let q-taken : taken ≡ x .taken = ap (λ (y : Tally). y .taken) q in
+    let q-count : count ≡ x .run .count = ap (λ (y : Tally). y .count) q in
+    let q-wrote : wrote ≡ length (x .text) = ap (λ (y : Tally). y .wrote) q in
     let a = take taken piece in
     let b = drop taken piece ++ rest in
     let g = piece-said (length out) piece r in

@@ -12,26 +12,24 @@ use mir.Val.{toZ}
 use mir.Facts.{sfits-toZ}
 use borrow.Author.Tests.{ltb-false, eqb-true, eqb-false}
 use Rattle.sequence_number.specs.Number.{top, natOf}
-use Rattle.sequence_number.specs.Outcome.{Outcome}
+use Rattle.sequence_number.specs.Outcome.{Outcome, refused, done}
 use Rattle.sequence_number.proofs.Split.{split}
-use Rattle.proxy_record.specs.State.{State, Ok}
-use Rattle.proxy_core.specs.Calls.{cap}
+use Rattle.proxy_record.specs.State.{State, cap, Ok}
 use Rattle.writer_proxy.specs.Missing.{missingOf, listed}
 use Rattle.writer_proxy.proofs.Promises.{received-keeps-rules, range-keeps-rules}
 use Rattle.replay_lines.specs.Decimal.{lineOf}
 use Rattle.replay_lines.specs.Hex.{allHex}
-use Rattle.replay_lines.specs.Frame.{frameOf, parsed}
+use Rattle.replay_lines.specs.Frame.{readOf, frameOf, parsed}
 use Rattle.replay_lines.specs.Answer.{room, counted, stepOf, textOf}
+use Rattle.replay_lines.specs.declared.frame.Frame.{Frame}
 use Rattle.replay_lines.specs.declared.frame.Frame.the-variants.{Received, Range, Missing}
-use Rattle.replay_lines.specs.declared.frame.Parsed.{Parsed}
-use Rattle.replay_lines.specs.declared.frame.Parsed.the-variants.{Malformed, Reads}
 use Rattle.replay_lines.proofs.HexLaws.{value-fits}
 use Rattle.replay_lines.proofs.FrameLaws.{parsed-length, parsed-digit, parsed-frame}
 
 -- The rules
 
 module _ (s : State) (list : List ℤ) (o : Ok cap s) where
-  frame-keeps : (kind a b : ℕ) → b < 2 ^ 64 → Ok cap (stepOf (frameOf kind a b) s list .state)
+  frame-keeps : (kind a b : ℕ) → b < 2 ^ 64 → Ok cap (stepOf (readOf (frameOf kind a b)) s list .state)
   unfolding stepOf frameOf
   frame-keeps kind a b h =
       split (eqb kind 1) (λ e. rw e (received-keeps-rules (toZ w64 a) b s o))
@@ -45,9 +43,9 @@ module _ (s : State) (list : List ℤ) (o : Ok cap s) where
       (λ e.
       let n : length line ≡ 34 = eqb-true (length line) 34 e in
       split (allHex line)
-      (λ f. subst (λ (p : Parsed). Ok cap (stepOf p s list .state)) (parsed-frame line n f) (frame-keeps _ _ _ (value-fits line 18 16 f (omega arith) (omega arith))))
-      (λ f. subst (λ (p : Parsed). Ok cap (stepOf p s list .state)) (parsed-digit line n f) o))
-      (λ e. subst (λ (p : Parsed). Ok cap (stepOf p s list .state)) (parsed-length line (eqb-false (length line) 34 e)) o)
+      (λ f. subst (λ (p : Outcome Frame). Ok cap (stepOf p s list .state)) (parsed-frame line n f) (frame-keeps _ _ _ (value-fits line 18 16 f (omega arith) (omega arith))))
+      (λ f. subst (λ (p : Outcome Frame). Ok cap (stepOf p s list .state)) (parsed-digit line n f) o))
+      (λ e. subst (λ (p : Outcome Frame). Ok cap (stepOf p s list .state)) (parsed-length line (eqb-false (length line) 34 e)) o)
 
 -- The lent list
 
@@ -66,21 +64,21 @@ module _ (start end : ℤ) (s : State) where
       (λ e. split (ltb (length l) (length (missingOf start end s))) (λ f. rw (e, f))
       (λ f. rw (e, f) (omega (arith, ltb-false (length l) (length (missingOf start end s)) f, length-map (missingOf start end s) pos, length-append m (drop (length m) l), length-drop (length m) l))))
 
-pub step-alike : (p : Parsed) (s : State) (l m : List ℤ) → room ≤ length l → room ≤ length m
+pub step-alike : (p : Outcome Frame) (s : State) (l m : List ℤ) → room ≤ length l → room ≤ length m
     → (stepOf p s l .state ≡ stepOf p s m .state) × (textOf (stepOf p s l) ≡ textOf (stepOf p s m))
 unfolding stepOf
-step-alike Malformed s l m h k = (refl, refl)
-step-alike (Reads (Received number time)) s l m h k = (refl, refl)
-step-alike (Reads (Range from until)) s l m h k = (refl, refl)
-step-alike (Reads (Missing start end)) s l m h k =
+step-alike (refused n) s l m h k = (refl, refl)
+step-alike (done (Received number time)) s l m h k = (refl, refl)
+step-alike (done (Range from until)) s l m h k = (refl, refl)
+step-alike (done (Missing start end)) s l m h k =
     let n : length (take room l) ≡ length (take room m) = length-take-le room l h ∙ sym (length-take-le room m k) in
     (refl, ap (λ (x : Outcome ℕ). lineOf 3 (counted (missingOf start end s) (s .base) x)) (listed-alike start end s (take room l) (take room m) n))
 
-pub step-length : (p : Parsed) (s : State) (l : List ℤ) → length (stepOf p s l .list) ≡ length l
+pub step-length : (p : Outcome Frame) (s : State) (l : List ℤ) → length (stepOf p s l .list) ≡ length l
 unfolding stepOf
-step-length Malformed s l = refl
-step-length (Reads (Received number time)) s l = refl
-step-length (Reads (Range from until)) s l = refl
-step-length (Reads (Missing start end)) s l =
+step-length (refused n) s l = refl
+step-length (done (Received number time)) s l = refl
+step-length (done (Range from until)) s l = refl
+step-length (done (Missing start end)) s l =
     let o = listed start end s (take room l) .output in
     omega (arith, length-append o (drop room l), listed-length start end s (take room l), length-append (take room l) (drop room l), ap length (take-append-drop room l))

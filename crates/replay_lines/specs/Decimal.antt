@@ -4,12 +4,12 @@ use mathlib.Core.Bool.{cond}
 use mathlib.Core.List.{List, [], _∷_, _++_}
 use lib.Dec.{ltb}
 
--- at most k digits past the last one of n, the most significant first; `0` is 48
+-- the digits of n, the most significant first, where it has at most k + 1 of them; `0` is 48
 unfoldable pub digitsWithin : ℕ → ℕ → List ℕ
 digitsWithin zero n = (48 + n) ∷ []
 digitsWithin (suc k) n = cond (ltb n 10) ((48 + n) ∷ []) (digitsWithin k (n / 10) ++ ((48 + n % 10) ∷ []))
 
--- the digits of n: no number has more digits past its last one than it says itself
+-- the digits of n, which has at most n + 1 of them
 unfoldable pub digits : ℕ → List ℕ
 digits n = digitsWithin n n
 

@@ -7,14 +7,14 @@ use lib.ListN.{length, take, set}
 use lib.Dec.{ltb, eqb}
 use lib.IntN.{ℤ}
 use Rattle.sequence_number.specs.Lent.{over}
+use Rattle.sequence_number.specs.Outcome.{Outcome, refused, done}
 use Rattle.proxy_record.specs.Record.{recordOf, stateOf}
 use Rattle.replay_lines.specs.Frame.{parsed}
 use Rattle.replay_lines.specs.Answer.{Step, room, enough, stepOf, textOf}
-use Rattle.replay_lines.specs.declared.feed.Held.{Held}
 use Rattle.replay_lines.specs.declared.feed.Fed.{Fed}
 use Rattle.replay_lines.specs.declared.feed.Fed.the-variants.{Refused, Took}
 
--- how many bytes are held of a line: more than one that reads has, so that no longer one reads
+-- how many bytes are held of a line: one more than a line that reads has, so a longer line is seen not to read
 abbrev pub kept : ℕ
 kept = 35
 
@@ -53,7 +53,7 @@ pub record Progress : Type 0 where
 abbrev pub onward : ℕ → Progress → Progress
 onward b x = record { taken = suc (x .taken); run = took b (x .run); text = x .text ++ says b (x .run) }
 
--- byte by byte, until the piece ends or what is left of the buffer does not hold any answer
+-- byte by byte, until the piece ends or what is left of the buffer might not hold the next answer
 unfoldable pub goOn : ℕ → List ℕ → Progress → Progress
 goOn size [] x = x
 goOn size (b ∷ piece) x = cond (ltb (size - length (x .text)) enough) x (goOn size piece (onward b x))
@@ -61,40 +61,49 @@ goOn size (b ∷ piece) x = cond (ltb (size - length (x .text)) enough) x (goOn 
 abbrev pub begin : Run → Progress
 begin r = record { taken = 0; run = r; text = [] }
 
+-- what an accepted piece says: how many of its bytes were taken, how many of a line are held after them, and how many bytes were written
+pub record Tally : Type 0 where
+  pub taken : ℕ
+  pub count : ℕ
+  pub wrote : ℕ
+
+abbrev pub tallyOf : ℕ → ℕ → ℕ → Tally
+tallyOf taken count wrote = record { taken = taken; count = count; wrote = wrote }
+
+-- the paper's number and values for each answer
+abbrev pub fedOf : Fed → Outcome Tally
+fedOf (Refused n) = refused n
+fedOf (Took taken count wrote) = done (tallyOf taken count wrote)
+
 -- the answer, and what is lent as it is after the call
 pub record AfterPiece : Type 0 where
-  pub answer : Fed
+  pub answer : Outcome Tally
   pub run : Run
   pub out : List ℕ
 
-abbrev pub done : Progress → List ℕ → AfterPiece
-done x out = record { answer = Took (x .taken) (x .run .count) (length (x .text)); run = x .run; out = over (x .text) out }
+abbrev pub tallied : Progress → List ℕ → AfterPiece
+tallied x out = record { answer = done (tallyOf (x .taken) (x .run .count) (length (x .text))); run = x .run; out = over (x .text) out }
 
-abbrev pub refused : Run → List ℕ → AfterPiece
-refused r out = record { answer = Refused 3; run = r; out = out }
+abbrev pub unfed : Run → List ℕ → AfterPiece
+unfed r out = record { answer = refused 3; run = r; out = out }
 
 -- a list, a buffer or held bytes that are too short, and a count that is too large, are refused with 3 and leave everything
 unfoldable pub fed : Run → List ℕ → List ℕ → AfterPiece
 fed r piece out =
-    cond (ltb (length (r .list)) room) (refused r out)
-    (cond (ltb (length (r .held)) kept) (refused r out)
-    (cond (ltb kept (r .count)) (refused r out)
-    (cond (ltb (length out) enough) (refused r out)
-    (done (goOn (length out) piece (begin r)) out))))
+    cond (ltb (length (r .list)) room) (unfed r out)
+    (cond (ltb (length (r .held)) kept) (unfed r out)
+    (cond (ltb kept (r .count)) (unfed r out)
+    (cond (ltb (length out) enough) (unfed r out)
+    (tallied (goOn (length out) piece (begin r)) out))))
 
--- What is promised of a byte and of a piece
+-- What is promised of a piece
 
 abbrev pub runOf : List ℕ → List ℤ → List ℕ → ℕ → Run
 runOf words list held count = record { words = words; list = list; held = held; count = count }
 
-pub record Stepped (r : Held) (words : List ℕ) (list : List ℤ) (held out out′ : List ℕ) (b : ℕ) (x : Run) : Type 0 where
-  pub run-is : runOf words list held (r .count) ≡ took b x
-  pub out-is : out′ ≡ over (says b x) out
-  pub wrote-is : r .wrote ≡ length (says b x)
-
 -- the lent words, list, held bytes and buffer after a call
 pub record Fed-to (r : Fed) (words : List ℕ) (list : List ℤ) (held out : List ℕ) (x : AfterPiece) : Type 0 where
-  pub answer-is : r ≡ x .answer
+  pub answer-is : fedOf r ≡ x .answer
   pub words-are : words ≡ x .run .words
   pub list-is : list ≡ x .run .list
   pub held-are : held ≡ x .run .held

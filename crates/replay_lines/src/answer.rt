@@ -5,12 +5,13 @@ ghost use Prim.Native.Nat.{_≤_};
 ghost use lib.ListN.{length, take};
 ghost use lib.Seq.{sets};
 ghost use Rattle.sequence_number.specs.Number.{top, natOf};
-ghost use Rattle.sequence_number.specs.Outcome.{refusal};
+ghost use Rattle.sequence_number.specs.Outcome.{refusal, done};
 ghost use Rattle.proxy_record.specs.Record.{Good, stateOf};
 ghost use Rattle.proxy_core.specs.Calls.{reported};
 ghost use Rattle.replay_lines.specs.Decimal.{started};
 ghost use Rattle.replay_lines.specs.Frame.{parsed};
-ghost use Rattle.replay_lines.specs.Answer.{room, enough, toldMissing, stepOf, Wrote, Did, answered, Answered};
+ghost use Rattle.replay_lines.specs.Answer.{room, enough, toldMissing, stepOf, answered, Answered};
+ghost use Rattle.replay_lines.specs.Inner.{Wrote, Did};
 use crate::decimal::put_list;
 use crate::decimal::put_next;
 use crate::decimal::put_number;
@@ -101,7 +102,7 @@ fn tell_missing(words: &[u64], start: i64, end: i64, list: &mut [i64], out: &mut
 // A frame, done and told.
 fn answer_frame(words: &mut [u64], frame: Frame, list: &mut [i64], out: &mut [u8]) -> usize
     requires { ⌜ Good (now words) × (room ≤ length (now list)) × (enough ≤ length (now out)) ⌝ }
-    ensures { λ n. ⌜ Did n (now (words .exit)) (now (list .exit)) (now (out .entry)) (now (out .exit)) (stepOf (Parsed.Reads frame) (stateOf (now (words .entry))) (now (list .entry))) ⌝ }
+    ensures { λ n. ⌜ Did n (now (words .exit)) (now (list .exit)) (now (out .entry)) (now (out .exit)) (stepOf (done frame) (stateOf (now (words .entry))) (now (list .entry))) ⌝ }
     ensures { λ n. ⌜ Good (now (words .exit)) ⌝ }
 {
     match frame {

@@ -114,7 +114,7 @@ impl Assembler for Calls {
         let mut happened = Happened {
             returned: None,
             dropped: None,
-            open: held.assembler.in_assembly().count(),
+            open: held.assembler.how_many(),
         };
         match outcome {
             Outcome::Kept => {}

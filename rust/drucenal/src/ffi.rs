@@ -173,6 +173,7 @@ mod library {
             listed: *mut usize,
         ) -> u32;
         pub fn drucenal_assembler_is_partially_received(words: *const u64, length: usize, number: i64) -> bool;
+        pub fn drucenal_assembler_in_assembly(words: *const u64, length: usize) -> usize;
     }
 }
 
@@ -513,5 +514,11 @@ impl AssemblerRecord {
     #[inline]
     pub fn is_partially_received(&self, number: i64) -> bool {
         unsafe { library::drucenal_assembler_is_partially_received(self.0.as_ptr(), ASSEMBLER_WORDS, number) }
+    }
+
+    /// How many numbers are in assembly.
+    #[inline]
+    pub fn in_assembly(&self) -> usize {
+        unsafe { library::drucenal_assembler_in_assembly(self.0.as_ptr(), ASSEMBLER_WORDS) }
     }
 }

@@ -168,6 +168,12 @@ impl FragmentAssembler {
         self.record.is_partially_received(number)
     }
 
+    /// How many numbers are in assembly: 128 at most.
+    #[inline]
+    pub fn how_many(&self) -> usize {
+        self.record.in_assembly()
+    }
+
     /// What is in assembly, by place.
     pub fn in_assembly(&self) -> impl Iterator<Item = InAssembly> + '_ {
         let unit = fragment_size(&self.record).max(1);
@@ -206,7 +212,7 @@ impl std::fmt::Debug for FragmentAssembler {
         out.debug_struct("FragmentAssembler")
             .field("fragment_size", &fragment_size(&self.record))
             .field("place_size", &place_size(&self.record))
-            .field("in_assembly", &self.in_assembly().count())
+            .field("in_assembly", &self.how_many())
             .finish()
     }
 }

@@ -76,7 +76,7 @@ fn cleaning() {
     let mut out = [90; 3];
     assert_eq!(assembler.garbage_collect_before(3, &mut out[..1]), Err(Refused::ROOM));
     assert_eq!(out, [90; 3]);
-    assert_eq!(assembler.in_assembly().count(), 3);
+    assert_eq!((assembler.how_many(), assembler.in_assembly().count()), (3, 3));
     assert_eq!(assembler.garbage_collect_before(3, &mut out), Ok(2));
     assert_eq!(out, [4, 9, 90]);
     assert_eq!(assembler.garbage_collect_before(3, &mut []), Ok(0));
@@ -157,5 +157,5 @@ fn an_area_too_short() {
     area.push(90);
     let mut other = short.clone();
     assert_eq!(other.new_datafrag(0, &fragment(1, 1, 1, b"abcd")), Ok(Outcome::Kept));
-    assert_eq!(short.in_assembly().count(), 0);
+    assert_eq!(short.how_many(), 0);
 }

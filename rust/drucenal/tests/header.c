@@ -128,6 +128,7 @@ static void the_assembler(void) {
     CHECK(drucenal_assembler_missing_frags_for(ASSEMBLER, 9, missing, 2, &listed) == 0);
     CHECK(listed == 1 && missing[0] == 1);
     CHECK(fragment(8, 10, 1, "wxyz", &what, &of, &place, &length) == 0 && what == 0);
+    CHECK(drucenal_assembler_in_assembly(ASSEMBLER) == 2);
     CHECK(fragment(9, 9, 1, "abcd", &what, &of, &place, &length) == 0);
     CHECK(what == 1 && of == 9 && place == 0 && length == 6);
     CHECK(drucenal_assembler_view(ASSEMBLER, area, sizeof area, place, length) == 6);
@@ -136,6 +137,7 @@ static void the_assembler(void) {
     CHECK(drucenal_assembler_garbage_collect_before(ASSEMBLER, 9, gone, 2, &listed) == 0);
     CHECK(listed == 1 && gone[0] == 10);
     CHECK(!drucenal_assembler_is_partially_received(ASSEMBLER, 10));
+    CHECK(drucenal_assembler_in_assembly(ASSEMBLER) == 0);
 }
 
 int main(void) {

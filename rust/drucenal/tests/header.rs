@@ -22,7 +22,7 @@ fn calls(text: &str) -> BTreeSet<String> {
 }
 
 /// How many calls the library exports.
-const EXPORTS: usize = 31;
+const EXPORTS: usize = 32;
 
 #[test]
 fn the_header_names_every_export() {

@@ -122,10 +122,10 @@ fn the_129th() {
                 length: 8
             })
         );
-        assert_eq!(assembler.in_assembly().count(), 128);
+        assert_eq!(assembler.how_many(), 128);
         let outcome = assembler.new_datafrag(0, &opening(129, 4, 8, 1));
         assert_eq!(outcome, Ok(Outcome::Dropped { number: dropped }));
-        assert_eq!(assembler.in_assembly().count(), 128);
+        assert_eq!(assembler.how_many(), 128);
         assert!(!assembler.is_partially_received(dropped as i64));
     }
 }

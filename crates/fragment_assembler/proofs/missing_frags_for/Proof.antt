@@ -46,7 +46,7 @@ shared-slice-read-count-of c = search needs
 count-of-requires : tie.Need-count-of-requires
 count-of-requires c κs =
     let s = c .before .before .before .before .before .before .before .before in
-    (s .pre .ok .some, (s .pre .ok .unit, omega (arith, good-size (s .args .t .now) (s .pre) (c .before .before .before .seek .result) (c .before .before .if2 .left))))
+    (s .pre .ok .some, (s .pre .ok .fragmentSize, omega (arith, good-size (s .args .t .now) (s .pre) (c .before .before .before .seek .result) (c .before .before .if2 .left))))
 
 mul-b : tie.Need-mul-b
 mul-b c = search needs

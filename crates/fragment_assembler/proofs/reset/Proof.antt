@@ -22,7 +22,7 @@ same-length c = search needs
 returns : tie.Need-returns
 returns c =
     let x = c .before .before .before .before .before .args in
-    reset-words _ (x .unit) (x .room) (x .mode) _ (c .before .before .before .before .before .pre) (c .before .before .wipe .ensures)
+    reset-words _ (x .fragment-size) (x .place-size) (x .mode) _ (c .before .before .before .before .before .pre) (c .before .before .wipe .ensures)
 
 pub reset-spec : {M : Type 1} → statement M
 reset-spec =

@@ -56,7 +56,7 @@ shared-slice-read-result c = search needs
 mul-result : tie.Need-mul-result
 mul-result c =
     let s = c .before .before .before .before .before in
-    record { fits = omega (arith, mul-le-mul-right (getD (s .args .t .now) 0 0) (c .before .before .first-gap .ensures .most), s .pre .unit) }
+    record { fits = omega (arith, mul-le-mul-right (getD (s .args .t .now) 0 0) (c .before .before .first-gap .ensures .most), s .pre .fragmentSize) }
 
 returns : tie.Need-returns
 returns c =

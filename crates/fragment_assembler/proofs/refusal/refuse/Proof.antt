@@ -76,7 +76,7 @@ shared-slice-read-d c = search needs
 refuse-run-requires : tie.Need-refuse-run-requires
 refuse-run-requires c κs =
     let s = c .before .before .before .before .before .before .before .before in
-    (s .pre .0 .ok .some, (s .pre .0 .ok .unit, omega (arith, good-size (s .args .t .now) (s .pre .0) (s .args .at) (c .before .if4 .taken))))
+    (s .pre .0 .ok .some, (s .pre .0 .ok .fragmentSize, omega (arith, good-size (s .args .t .now) (s .pre .0) (s .args .at) (c .before .if4 .taken))))
 
 returns-4 : tie.Need-returns-4
 returns-4 c = c .refuse-run .ensures ∙ knows (c .before .before .before) (c .before .before .if4 .taken)
@@ -97,7 +97,7 @@ returns-6 c =
 mul-if7 : tie.Need-mul-if7
 mul-if7 c =
     let s = startOf (c .before .before .before) in
-    record { fits = omega (arith, s .pre .0 .ok .unit) }
+    record { fits = omega (arith, s .pre .0 .ok .fragmentSize) }
 
 returns-7 : tie.Need-returns-7
 returns-7 c =
@@ -109,7 +109,7 @@ returns-7 c =
 refuse-run-requires-2 : tie.Need-refuse-run-requires-2
 refuse-run-requires-2 c κs =
     let s = c .before .before .before .before .before .before .before .before .before .before in
-    (s .pre .0 .ok .some, (s .pre .0 .ok .unit, omega (arith, s .fits .data-size .fits)))
+    (s .pre .0 .ok .some, (s .pre .0 .ok .fragmentSize, omega (arith, s .fits .data-size .fits)))
 
 returns-8 : tie.Need-returns-8
 returns-8 c =

@@ -31,7 +31,7 @@ slice-read-d c = search needs
 whole-at-requires : tie.Need-whole-at-requires
 whole-at-requires c κs =
     let s = c .before .before .before .before in
-    record { long = s .pre .long; within = s .pre .within; some = s .pre .some; unit = s .pre .unit; few = s .pre .few }
+    record { long = s .pre .long; within = s .pre .within; some = s .pre .some; fragmentSize = s .pre .fragmentSize; few = s .pre .few }
 
 wipe-at-requires : tie.Need-wipe-at-requires
 wipe-at-requires c κs = search needs

@@ -41,7 +41,7 @@ cast-k c = search needs
 mul-o : tie.Need-mul-o
 mul-o c =
     let s = c .before .before .before .before .before .before in
-    omega (arith, run-off (s .args .t .now) (length (s .args .area .now)) (s .args .seat) (s .args .opened) (callAt s) (s .pre), s .pre .sample .most, s .pre .room)
+    omega (arith, run-off (s .args .t .now) (length (s .args .area .now)) (s .args .seat) (s .args .opened) (callAt s) (s .pre), s .pre .sample .most, s .pre .placeSize)
 
 sub-less : tie.Need-sub-less
 sub-less c =
@@ -54,7 +54,7 @@ less-requires c κs = search needs
 mul-less : tie.Need-mul-less
 mul-less c =
     let s = c .before .before .before .before .before .before .before in
-    record { fits = small-mul (s .args .count) (getD (s .args .t .now) 0 0) (s .fits .count .fits) (s .pre .unit) }
+    record { fits = small-mul (s .args .count) (getD (s .args .t .now) 0 0) (s .fits .count .fits) (s .pre .fragmentSize) }
 
 less-requires-2 : tie.Need-less-requires-2
 less-requires-2 c κs = search needs

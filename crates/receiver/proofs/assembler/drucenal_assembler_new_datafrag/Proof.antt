@@ -31,7 +31,7 @@ returns : tie.Need-returns
 returns c =
     let a = c .before .before .before .before .before .before .before .before .before .before .before .before .before .args in
     does-out (happened (a .what .now) (a .of .now) (a .place .now) (a .length .now)) _ (ap fateOf (c .before .n .given .1))
-    (ap (λ (z : ℤ). callOf (a .time) (numberOf z) (a .size) (a .total) (a .start) (a .count) (a .payload .now)) (toZ-ofZ (c .before .before .before .before .before .before .before .before .before .before .before .before .before .fits .number)))
+    (ap (λ (z : ℤ). callOf (a .time) (numberOf z) (a .size) (a .data-size) (a .start) (a .count) (a .payload .now)) (toZ-ofZ (c .before .before .before .before .before .before .before .before .before .before .before .before .before .fits .number)))
     (c .before .before .before .before .before .before .before .new-datafrag .ensures)
 
 enum-told : tie.Need-enum-told
@@ -53,7 +53,7 @@ returns-2 : tie.Need-returns-2
 returns-2 c =
     let a = c .before .before .before .before .before .before .before .before .before .before .before .before .args in
     does-out (happened (a .what .now) (a .of .now) (a .place .now) (a .length .now)) _ (ap fateOf (c .enum-told .given .1))
-    (ap (λ (z : ℤ). callOf (a .time) (numberOf z) (a .size) (a .total) (a .start) (a .count) (a .payload .now)) (toZ-ofZ (c .before .before .before .before .before .before .before .before .before .before .before .before .fits .number)))
+    (ap (λ (z : ℤ). callOf (a .time) (numberOf z) (a .size) (a .data-size) (a .start) (a .count) (a .payload .now)) (toZ-ofZ (c .before .before .before .before .before .before .before .before .before .before .before .before .fits .number)))
     (c .before .before .before .before .before .before .new-datafrag .ensures)
 
 same-length-5 : tie.Need-same-length-5
@@ -66,7 +66,7 @@ returns-3 : tie.Need-returns-3
 returns-3 c =
     let a = c .before .before .before .before .before .before .before .before .before .before .before .before .before .args in
     does-out (happened (a .what .now) (a .of .now) (a .place .now) (a .length .now)) _ (ap fateOf (c .before .n2 .given .1))
-    (ap (λ (z : ℤ). callOf (a .time) (numberOf z) (a .size) (a .total) (a .start) (a .count) (a .payload .now)) (toZ-ofZ (c .before .before .before .before .before .before .before .before .before .before .before .before .before .fits .number)))
+    (ap (λ (z : ℤ). callOf (a .time) (numberOf z) (a .size) (a .data-size) (a .start) (a .count) (a .payload .now)) (toZ-ofZ (c .before .before .before .before .before .before .before .before .before .before .before .before .before .fits .number)))
     (c .before .before .before .before .before .before .before .new-datafrag .ensures)
 
 same-length-7 : tie.Need-same-length-7
@@ -79,7 +79,7 @@ returns-4 : tie.Need-returns-4
 returns-4 c =
     let a = c .before .before .before .before .before .before .before .before .before .before .before .before .before .args in
     does-out (happened (a .what .now) (a .of .now) (a .place .now) (a .length .now)) _ (ap fateOf (c .before .n3 .given .1))
-    (ap (λ (z : ℤ). callOf (a .time) (numberOf z) (a .size) (a .total) (a .start) (a .count) (a .payload .now)) (toZ-ofZ (c .before .before .before .before .before .before .before .before .before .before .before .before .before .fits .number)))
+    (ap (λ (z : ℤ). callOf (a .time) (numberOf z) (a .size) (a .data-size) (a .start) (a .count) (a .payload .now)) (toZ-ofZ (c .before .before .before .before .before .before .before .before .before .before .before .before .before .fits .number)))
     (c .before .before .before .before .before .before .before .new-datafrag .ensures)
 
 pub drucenal-assembler-new-datafrag-spec : {M : Type 1} → statement M

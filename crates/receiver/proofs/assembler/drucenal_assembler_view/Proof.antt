@@ -21,7 +21,7 @@ returns c =
     let n = c .before .before .before .args .length in (
       ap length (c .view .ensures),
       shown-front a area place n
-          ∙ ap (λ (l : List ℕ). take (length l) (drop (place * a .room) area)) (sym (c .view .ensures)),
+          ∙ ap (λ (l : List ℕ). take (length l) (drop (place * a .placeSize) area)) (sym (c .view .ensures)),
     )
 
 pub drucenal-assembler-view-spec : {M : Type 1} → statement M
