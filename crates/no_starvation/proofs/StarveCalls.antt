@@ -55,13 +55,6 @@ refused-shows a area c e z =
     let y : _≡_ {A = ℕ} 0 1 = cc in
     omega arith
 
--- the words keep their rules along the calls
-calls-good : {N : ℕ} {B w area : List ℕ} {rs : List Run} {time : ℕ} → Calls N B w area rs time → Good w
-calls-good (starve.Calls.start g r ab) = g
-calls-good (starve.Calls.own h c r w′ area′ d cn ok cut silent low) = d .good
-calls-good (starve.Calls.other h c r w′ area′ d o low) = d .good
-calls-good (starve.Calls.cleaned h cutoff out r w′ out′ d le low) = d .good
-
 chain-of : {N : ℕ} {B w area : List ℕ} {rs : List Run} {time : ℕ} → Calls N B w area rs time → Chain N B (moment (stateOf w) area) rs time
 chain-of (starve.Calls.start g r ab) = starve.Chain.start (g .ok) r ab
 chain-of {N = N} {B = B} (starve.Calls.own {w = w} {area = area} {rs = rs} h c r w′ area′ d cn ok cut silent low) =
