@@ -1,5 +1,4 @@
 -- Others cannot starve a block (demand 3): the invariant of a chain of calls, and the theorem. Assumes nothing.
--- ---- what holds all along
 use Prim.Native.Nat.{ℕ, _+_, _*_, _-_, _/_, _%_, _≤_, _<_}
 use native.Mathlib.Omega.{arith}
 use native.Mathlib.Nat.{mod-lt, mul-le-mul-right, div-add-mod'}
@@ -35,6 +34,8 @@ use Rattle.fragment_assembler.specs.Refusal.{Call, refusal}
 use Rattle.assembly_record.specs.Rules.{Ok}
 use Rattle.no_starvation.specs.Starve.{brought, Run, other, after, own, Cut, wants, start, runOf, isBrought, returns, Delivered, moment, Moment, Event, Other, Bounded, arrives, cleans, looks, Chain, Accepted, said}
 use Rattle.assembly_record.specs.State.{Place, at, Assembler, free, withPlaces}
+
+-- ---- what holds all along
 
 abbrev Alone : ℕ → ℕ → List Place → Type 0
 Alone N i ps = (j : ℕ) → at ps j .number ≡ N → j ≡ i
