@@ -21,7 +21,6 @@ use Rattle.assembly_record.specs.Table.{victim, find, count, has}
 use Rattle.assembly_record.specs.Fragments.{isWhole, brings}
 use Rattle.assembly_record.specs.Rows.{Became, ran, openedRow}
 use Rattle.fragment_assembler.specs.Inner.{Ends, workOf, Closes, Runs, Worked, RunOk}
-use Rattle.assembly_record.specs.Marks.{all}
 use Rattle.fragment_assembler.specs.Promise.{Does}
 use Rattle.fragment_assembler.specs.Refusal.{Call, refusal, callOf}
 use Rattle.assembly_record.specs.Rules.{Good, Ok}

@@ -21,7 +21,7 @@ use Rattle.assembly_record.specs.Table.{victim, count, has, find}
 use Rattle.assembly_record.specs.Marks.{marked, covers}
 use Rattle.fragment_assembler.specs.Refusal.{Call, refusal}
 use Rattle.assembly_record.specs.Rules.{Ok}
-use Rattle.assembly_record.specs.State.{Assembler, at, free, Place}
+use Rattle.assembly_record.specs.State.{Assembler, free, Place}
 use Rattle.fragment_assembler.specs.View.{shown}
 
 -- ---- bytes outside a paste, either side

@@ -15,12 +15,11 @@ use borrow.Author.Tests.{ltb-false, leb-false, eqb-true, eqb-false, not-false, l
 use Rattle.sequence_number.specs.Number.{top, numberOf, isNumber}
 use Rattle.sequence_number.proofs.NumberLaws.{number-passed}
 use Rattle.sequence_number.proofs.Split.{split, split-lt, neither}
-use Rattle.fragment_assembler.specs.Call.{opened}
 use Rattle.assembly_record.specs.Fragments.{fragments}
 use Rattle.fragment_assembler.specs.Inner.{RunOk}
 use Rattle.fragment_assembler.specs.Refusal.{runRefusal, rows, row, Call, refusal, opens, first, runRows, Row, callOf, sizeFor}
 use Rattle.assembly_record.specs.State.{Assembler, at}
-use Rattle.assembly_record.specs.Table.{count, find, has}
+use Rattle.assembly_record.specs.Table.{find, has}
 
 -- ---- a run's rows
 
