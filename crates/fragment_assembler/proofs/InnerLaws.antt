@@ -10,6 +10,7 @@ use lib.Seq.{paste, getD-set-same, getD-set-other, set-set, set-getD}
 use lib.Dec.{eqb}
 use borrow.Author.Tests.{lt-ltb, le-ltb}
 use Rattle.sequence_number.specs.Outcome.{Outcome, refused, done}
+use Rattle.sequence_number.proofs.Split.{clash}
 use Rattle.fragment_assembler.proofs.CallLaws.{settle-kept, victim-found, settle-dropped, finish-whole, finish-not, inside, run-start, fragment-accepted, fragment-ok, fragment-refused, begin-known, opened-sample, begin-fresh}
 use Rattle.assembly_record.proofs.FragmentsLaws.{fragment-starts}
 use Rattle.fragment_assembler.proofs.RefusalLaws.{Passed, passed}
@@ -269,7 +270,7 @@ module _ (w area : List ℕ) (time number size total start count : ℕ) (payload
                   rw (opened-at, u, p)
                   (opened-sample (getD w 0 0) (getD w 1 0) (callOf time number size total start count payload) (pass .low) (pass .high) o);
               ok = rw (opened-at, u) (record { some = r .some; start = r .start; fits = r .fits });
-              spare = λ e. let z : _≡_ {A = ℕ} 0 1 = cc in absurd (omega arith);
+              spare = λ e. absurd (clash true refl e);
             }
 
         pub does-fresh : (r : Answer) (area₁ w′ after : List ℕ) → area₁ ≡ paste area (s * getD w 1 0) (replicate total 0) total
