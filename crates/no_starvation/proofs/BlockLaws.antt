@@ -1,5 +1,5 @@
--- What one call does to a block in assembly, in reliable mode: one of another number or a cleaning leaves it, one of its own brings it further or returns
--- it. Assumes nothing.
+-- What one call does to a block, in reliable mode: a call of another number, or a cleaning, leaves it; one of its own number brings it further or
+-- returns it. Assumes nothing.
 use Prim.Native.Nat.{ℕ, _+_, _*_, _-_, _/_, _%_, _≤_, _<_}
 use native.Mathlib.Omega.{arith}
 use native.Mathlib.Nat.{mod-lt, mul-le-mul-right, div-add-mod'}
