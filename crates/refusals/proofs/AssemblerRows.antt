@@ -12,7 +12,7 @@ use mir.Syntax.{w64}
 use mir.Val.{SFits}
 use borrow.Author.Tests.{ltb-true, ltb-false, eqb-true, eqb-false, not-true, not-false, ne-eqb}
 use Rattle.sequence_number.specs.Number.{top, isNumber, numberOf}
-use Rattle.sequence_number.proofs.Split.{split}
+use Rattle.sequence_number.proofs.Split.{split, clash, both, neither}
 use Rattle.assembly_record.specs.State.{Place, Assembler, at, free}
 use Rattle.assembly_record.specs.Table.{find, has, inAssembly}
 use Rattle.assembly_record.specs.Fragments.{fragments}
@@ -30,10 +30,11 @@ use Rattle.fragment_assembler.specs.declared.Answer.{Answer}
 use Rattle.fragment_assembler.specs.declared.Cleaned.{Cleaned}
 use Rattle.fragment_assembler.specs.declared.Listing.{Listing}
 use Rattle.fragment_assembler.proofs.RefusalLaws.{number-row}
+use Rattle.assembly_record.proofs.TableLaws.{at-free}
 use Rattle.assembly_record.proofs.WordsLaws.{length-table}
 use Rattle.fragment_assembler.proofs.Determined.{same-words}
 use Rattle.refusals.specs.RefusalTable.{row, Verdict, refused, Exactly, Refuses, verdict, numbered, shorter, setUpRows, sampleSize, fragmentRows}
-use Rattle.refusals.proofs.RowLaws.{none-left, asks, asks-less, not-refused, clash, and-true, or-false}
+use Rattle.refusals.proofs.RowLaws.{none-left, asks, asks-less, not-refused}
 use Rattle.refusals.proofs.ProxyRows.{row-holds, row-fails}
 
 -- ---- numbers
@@ -44,9 +45,9 @@ numbered-some (suc n) f = refl
 
 -- of a number that a call takes the query looks at the table
 asked : (ps : List Place) (n : ℤ) → isNumber n ≡ true → has ps (numberOf n) ≡ inAssembly ps (numberOf n)
-asked ps (negsuc n) e = let z : _≡_ {A = ℕ} 0 1 = cc in absurd (omega arith)
+asked ps (negsuc n) e = absurd (clash false e refl)
 asked ps (pos n) e =
-    let h : ltb 0 n ≡ true = and-true (ltb 0 n) (ltb n top) e .0 in
+    let h : ltb 0 n ≡ true = both (ltb 0 n) (ltb n top) e .0 in
     let k : 0 < n = ltb-true 0 n h in
     rw (e, ne-eqb n 0 (λ z. omega arith))
 
@@ -133,11 +134,6 @@ fragment-rows w w′ area area′ time number size D k n payload r g fits h =
 
 -- ---- set-up
 
-at-free : (n i : ℕ) → at (replicate n free) i ≡ free
-at-free zero i = refl
-at-free (suc n) zero = refl
-at-free (suc n) (suc i) = at-free n i
-
 fresh-long : (f : ℕ) (reliable : Bool) (p : ℕ) → length (recordOf (empty f reliable p)) ≡ 906
 unfolding recordOf
 fresh-long f reliable p =
@@ -166,8 +162,8 @@ module _ (f : ℕ) (reliable : Bool) (p : ℕ) (w : List ℕ) where
 
   fit : eqb f 0 || (eqb p 0 || ltb 65536 p) ≡ false → Unfit → ⊥
   fit t u =
-      let a = or-false (eqb f 0) (eqb p 0 || ltb 65536 p) t in
-      let b = or-false (eqb p 0) (ltb 65536 p) (a .1) in
+      let a = neither (eqb f 0) (eqb p 0 || ltb 65536 p) t in
+      let b = neither (eqb p 0) (ltb 65536 p) (a .1) in
       ⊎-elim (λ x. eqb-false f 0 (a .0) x) (⊎-elim (λ x. eqb-false p 0 (b .0) x) (λ x. let k : p ≤ 65536 = ltb-false 65536 p (b .1) in omega arith)) u
 
   set-up-tests : Exactly (numbered (setUpRefusal f p (length w))) (setUpRows f reliable p w)
