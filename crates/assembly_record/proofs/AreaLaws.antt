@@ -1,12 +1,10 @@
 -- What stands in an area after bytes were put into it, byte by byte. Assumes nothing.
-use Prim.Native.Nat.{ℕ, _+_, _*_, _-_, _≤_, _<_}
+use Prim.Native.Nat.{ℕ, _+_, _-_, _≤_, _<_}
 use native.Mathlib.Omega.{arith}
-use native.Mathlib.Nat.{mul-le-mul-right}
 use mathlib.Core.Path.{_≡_, sym, ap, _∙_}
 use mathlib.Core.List.{List, _++_, append-assoc}
 use lib.ListN.{length, getD, take, drop, replicate, length-take, length-drop, length-replicate, List·getD-append}
 use lib.Seq.{paste, take-all, length-paste-head, length-take-le, getD-take, getD-drop, getD-append-add, drop-drop}
-use Rattle.assembly_record.proofs.WordsLaws.{back}
 
 module _ (d : List ℕ) (i : ℕ) (s : List ℕ) (n : ℕ) (hd : i + n ≤ length d) (hs : n ≤ length s) where
   private-head : length (take i d ++ take n s) ≡ i + n
@@ -34,10 +32,6 @@ module _ (d : List ℕ) (i : ℕ) (s : List ℕ) (n : ℕ) (hd : i + n ≤ lengt
     where
       e : j ≡ length (take i d ++ take n s) + (j - (i + n))
       e = omega (arith, private-head)
-
--- two places of p bytes do not meet
-pub apart : (p i j b : ℕ) → i < j → b < p → i * p + b < j * p
-apart p i j b h l = omega (arith, mul-le-mul-right p h)
 
 -- a part that was lent and came back as the first n of s
 pub put-paste : (d : List ℕ) (i n : ℕ) (ys s : List ℕ) → ys ≡ take n s → take i d ++ (ys ++ drop ((i + n) - i) (drop i d)) ≡ paste d i s n

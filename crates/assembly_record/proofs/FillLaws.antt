@@ -1,5 +1,4 @@
 -- A part that a loop fills or copies, one element at a time. Assumes nothing.
--- one element more of a fill
 use Prim.Native.Nat.{ℕ, _+_, _<_}
 use native.Mathlib.Omega.{arith}
 use native.Mathlib.Nat.{zero-add}
@@ -10,6 +9,7 @@ use lib.ListN.{length, getD, set, take, drop, replicate}
 use lib.Seq.{paste, paste-suc, drop-length}
 use borrow.Author.Fill.{fill-more}
 
+-- one element more of a fill
 pub fill-next : (i v : ℕ) (d₀ d : List ℕ) → d ≡ replicate i v ++ drop i d₀ → i < length d₀ → set d i v ≡ replicate (i + 1) v ++ drop (i + 1) d₀
 fill-next i v d₀ d e h = ap (λ (l : List ℕ). set l i v) e ∙ fill-more i v d₀ h
 

@@ -2,14 +2,15 @@
 use Prim.Native.Nat.{ℕ, zero, suc, _+_, _-_, _≤_, _<_}
 use native.Mathlib.Omega.{arith}
 use native.Mathlib.Nat.{not-suc-le-zero}
-use mathlib.Core.Path.{_≡_, refl, sym, ap, subst, _∙_}
+use mathlib.Core.Path.{_≡_, sym, ap, subst, _∙_}
 use mathlib.Core.Bool.{true, false, cond}
 use mathlib.Core.Logic.{⊎-elim}
 use mathlib.Core.List.{List, [], _∷_, _++_, append-nil, List·Memᴰ, List·Memᴰ·head, List·Memᴰ·not-nil, Memᴰ·append-left, Memᴰ·append-right, List·Memᴰ·append-cases, List·Memᴰ·eq-of-singleton}
 use lib.ListN.{length, getD, set, drop, length-append, List·getD-append}
-use lib.Seq.{getD-append-seam, drop-cons, set-at, append-snoc}
+use lib.Seq.{getD-append-seam}
 use lib.Dec.{leb}
 use borrow.Author.Tests.{leb-true, leb-false}
+use Rattle.sequence_number.proofs.RunLaws.{over-more}
 use Rattle.sequence_number.proofs.Split.{split, split-lt}
 use Rattle.assembly_record.specs.Marks.{marked, gaps}
 
@@ -29,16 +30,10 @@ gaps-mono m i (suc n) h =
 pub gaps-more : (m : List ℕ) (n : ℕ) (d out : List ℕ) (k : ℕ) → out ≡ gaps m n ++ drop (length (gaps m n)) d → k ≡ length (gaps m n) → marked m n ≡ false
     → k < length d → (set out k (suc n) ≡ gaps m (suc n) ++ drop (length (gaps m (suc n))) d) × (k + 1 ≡ length (gaps m (suc n)))
 gaps-more m n d out k e ek g l =
-    let v = gaps m n in
-    let q : length v < length d = omega arith in
-    let s : set out k (suc n) ≡ (v ++ (suc n ∷ [])) ++ drop (suc (length v)) d =
-    ap (λ (o : List ℕ). set o k (suc n)) e
-    ∙ ap (λ (j : ℕ). set (v ++ drop (length v) d) j (suc n)) ek
-    ∙ ap (λ (r : List ℕ). set (v ++ r) (length v) (suc n)) (drop-cons d (length v) 0 q)
-    ∙ set-at v (getD d (length v) 0) (drop (suc (length v)) d) (suc n) (length v) refl
-    ∙ sym (append-snoc v (suc n) (drop (suc (length v)) d)) in
-    let lv : suc (length v) ≡ length (v ++ (suc n ∷ [])) = omega (arith, length-append v (suc n ∷ [])) in
-    rw (gaps-gap m n g) (s ∙ ap (λ (j : ℕ). (v ++ (suc n ∷ [])) ++ drop j d) lv, omega arith)
+    rw (gaps-gap m n g) (
+      ap (λ (o : List ℕ). set o k (suc n)) e ∙ over-more (gaps m n) d k (suc n) (sym ek) l,
+      omega (arith, length-append (gaps m n) (suc n ∷ [])),
+    )
 
 pub gaps-in : (m : List ℕ) (f k : ℕ) → List·Memᴰ k (gaps m f) → (0 < k) × (k ≤ f) × (marked m (k - 1) ≡ false)
 gaps-in m zero k h = absurd (List·Memᴰ·not-nil h)

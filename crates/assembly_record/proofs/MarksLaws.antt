@@ -4,14 +4,14 @@ use native.Mathlib.Omega.{arith}
 use native.Mathlib.Nat.{not-suc-le-zero, le-of-suc-le-suc, eq-or-lt-of-le, mod-lt, zero-div}
 use native.Mathlib.Numerals.{add-one}
 use mathlib.Core.Path.{_≡_, refl, sym, ap, subst, _∙_}
-use mathlib.Core.Bool.{Bool, true, false, _&&_, _||_, or-false}
+use mathlib.Core.Bool.{Bool, true, false, _||_, or-false, or-assoc}
 use mathlib.Core.Logic.{⊎-elim}
 use mathlib.Core.List.{List}
 use lib.ListN.{length, getD, set, replicate, length-set, getD-replicate, List·getD-eq-default}
 use lib.Dec.{ltb, leb, eqb}
 use lib.Bits.{bitOr}
 use borrow.Author.Tests.{ltb-true, ltb-false, leb-true, leb-false, eqb-true, eqb-false, lt-ltb, le-ltb, ne-eqb}
-use Rattle.sequence_number.proofs.Split.{split}
+use Rattle.sequence_number.proofs.Split.{split, both}
 use Rattle.number_set.proofs.WidthLaws.{one-within, or-sets, set-has}
 use Rattle.assembly_record.specs.Marks.{mark, markRun, marked, covers, all}
 
@@ -19,10 +19,6 @@ pub length-run : (m : List ℕ) (k n : ℕ) → length (markRun m k n) ≡ lengt
 unfolding mark
 length-run m k zero = refl
 length-run m k (suc n) = simp length-set (length-run m k n)
-
-or-assoc : (a b c : Bool) → a || b || c ≡ a || (b || c)
-or-assoc true b c = refl
-or-assoc false b c = refl
 
 -- a mark as the code sets it
 pub mark-or : (m : List ℕ) (j : ℕ)
@@ -84,20 +80,11 @@ all-ext f g (suc n) h =
     let a = all-ext f g n (λ j l. h j (omega arith)) in
     let b = h n (omega arith) in cc
 
-and-left : (a b : Bool) → a && b ≡ true → a ≡ true
-and-left true b e = refl
-and-left false b e = e
-
-and-right : (a b : Bool) → a && b ≡ true → b ≡ true
-and-right true b e = e
-and-right false true e = refl
-and-right false false e = e
-
 pub all-at : (f : ℕ → Bool) (n j : ℕ) → all f n ≡ true → j < n → f j ≡ true
 all-at f zero j e l = absurd (not-suc-le-zero l)
 all-at f (suc n) j e l =
-    ⊎-elim (λ q. subst (λ (k : ℕ). f k ≡ true) (sym q) (and-right (all f n) (f n) e))
-    (λ k. all-at f n j (and-left (all f n) (f n) e) k) (eq-or-lt-of-le (le-of-suc-le-suc l))
+    ⊎-elim (λ q. subst (λ (k : ℕ). f k ≡ true) (sym q) (both (all f n) (f n) e .1))
+    (λ k. all-at f n j (both (all f n) (f n) e .0) k) (eq-or-lt-of-le (le-of-suc-le-suc l))
 
 pub all-lacks : (f : ℕ → Bool) (n j : ℕ) → j < n → f j ≡ false → all f n ≡ false
 all-lacks f n j l e = split (all f n) (λ t. t ∙ sym (all-at f n j t l) ∙ e) (λ t. t)

@@ -6,7 +6,7 @@ use mathlib.Core.Path.{_≡_, refl, sym, ap, subst, _∙_}
 use mathlib.Core.Bool.{Bool, true, false, cond, _&&_}
 use mathlib.Core.Logic.{_⊎_, inl, inr, ⊎-elim}
 use mathlib.Core.List.{List, [], _∷_}
-use lib.ListN.{length, getD, set, take, drop, length-drop, drop-of-length-le}
+use lib.ListN.{length, getD, set, take, drop, replicate, length-drop, drop-of-length-le}
 use lib.Seq.{drop-cons}
 use lib.Dec.{ltb, eqb}
 use borrow.Author.Tests.{ltb-true, ltb-false, eqb-true, eqb-false, lt-ltb, le-ltb, eq-eqb, ne-eqb}
@@ -66,6 +66,15 @@ inside-at [] j h = absurd (not-suc-le-zero h)
 inside-at (p ∷ ps) zero h = omega arith
 inside-at (p ∷ ps) (suc j) h = let k = inside-at ps j h in omega arith
 
+-- a table of free places
+pub at-free : (n i : ℕ) → at (replicate n free) i ≡ free
+at-free zero i = refl
+at-free (suc n) zero = refl
+at-free (suc n) (suc i) = at-free n i
+
+abbrev pub placeNumber : Place → ℕ
+placeNumber p = p .number
+
 -- what stands at j after a store at s
 pub at-set : (ps : List Place) (s : ℕ) (q : Place) (j : ℕ) → ((at (set ps s q) j ≡ q) × (j ≡ s)) ⊎ (at (set ps s q) j ≡ at ps j)
 at-set [] s q j = inr refl
@@ -94,10 +103,7 @@ highest-is (p ∷ (q ∷ ps)) h = go (highest-is (q ∷ ps) (omega arith)) (ltb 
     go (j, l, e) false t = let k : highestOf (q ∷ ps) ≤ p .number = ltb-false _ _ t in (0, omega arith, omega arith)
 
 pub highest-found : (ps : List Place) → 0 < length ps → find (highestOf ps) ps < length ps
-highest-found ps h =
-    let w = highest-is ps h in
-    let b : w .0 < find (highestOf ps) ps → ⊥ = λ k. find-miss (highestOf ps) ps (w .0) k (w .2) in
-    omega (arith, b, w .1)
+highest-found ps h = let w = highest-is ps h in find-some (highestOf ps) ps (w .0) (w .1) (w .2)
 
 -- ---- how many
 
@@ -207,10 +213,7 @@ lowest-is (p ∷ (q ∷ ps)) h = go (lowest-is (q ∷ ps) (omega arith)) (ltb (p
     go (j, l, e) false t = let k : lowestOf (q ∷ ps) ≤ p .number = ltb-false _ _ t in (suc j, omega arith, omega arith)
 
 pub lowest-found : (ps : List Place) → 0 < length ps → find (lowestOf ps) ps < length ps
-lowest-found ps h =
-    let w = lowest-is ps h in
-    let b : w .0 < find (lowestOf ps) ps → ⊥ = λ k. find-miss (lowestOf ps) ps (w .0) k (w .2) in
-    omega (arith, b, w .1)
+lowest-found ps h = let w = lowest-is ps h in find-some (lowestOf ps) ps (w .0) (w .1) (w .2)
 
 -- one more place, from the end
 pub lowest-drop : (ps : List Place) (i : ℕ) (d : Place) → 0 < i → i < length ps

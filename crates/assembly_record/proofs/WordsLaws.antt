@@ -1,5 +1,4 @@
 -- Laws of `specs/Words.antt`: a row read, a row lent and back, and that words are the record of their state. Assumes nothing.
--- ---- rows of equal length
 use Prim.Native.Nat.{ℕ, zero, suc, _+_, _*_, _-_, _≤_, _<_}
 use native.Mathlib.Omega.{arith}
 use native.Mathlib.Nat.{not-suc-le-zero, le-of-suc-le-suc}
@@ -14,6 +13,8 @@ use Rattle.sequence_number.proofs.Split.{split}
 use Rattle.assembly_record.specs.Rows.{Became}
 use Rattle.assembly_record.specs.State.{at, Place, Assembler, withPlaces}
 use Rattle.assembly_record.specs.Words.{rowsOf, placeOf, placesOf, rowOf, tableOf, bit, recordOf, stateOf}
+
+-- ---- rows of equal length
 
 pub length-rows : (n : ℕ) (l : List ℕ) → length (rowsOf n l) ≡ n
 length-rows zero l = refl
@@ -119,6 +120,9 @@ module _ (w : List ℕ) (i : ℕ) (h : i < 129) where
       let n : (3 + 7 * i + 3 + 4) - (3 + 7 * i + 3) ≡ 4 = omega arith in
       omega (arith, n, length-take ((3 + 7 * i + 3 + 4) - (3 + 7 * i + 3)) (drop (3 + 7 * i + 3) w), length-drop (3 + 7 * i + 3) w)
 
+  part-seven : (3 + 7 * i + 7) - (3 + 7 * i) ≡ 7
+  part-seven = omega arith
+
   -- row i of the record, lent and back as ys
   pub lent-back : (ys : List ℕ) → length w ≡ 906 → length ys ≡ 7
       → Became w (set (placesOf w) i (placeOf ys)) (take (3 + 7 * i) w ++ (ys ++ drop ((3 + 7 * i + 7) - (3 + 7 * i)) (drop (3 + 7 * i) w)))
@@ -135,20 +139,14 @@ module _ (w : List ℕ) (i : ℕ) (h : i < 129) where
       front : length (take (3 + 7 * i) w) ≡ 3 + 7 * i
       front = length-take-le (3 + 7 * i) w (omega arith)
 
-      seven : (3 + 7 * i + 7) - (3 + 7 * i) ≡ 7
-      seven = omega arith
-
       three : length (take 3 w) ≡ 3
       three = length-take-le 3 w (omega arith)
 
       shape : drop 3 (take (3 + 7 * i) w ++ (ys ++ drop ((3 + 7 * i + 7) - (3 + 7 * i)) (drop (3 + 7 * i) w)))
           ≡ take (7 * i) (drop 3 w) ++ (ys ++ drop 7 (drop (7 * i) (drop 3 w)))
       shape =
-          rw (seven, take-add 3 (7 * i) w, ← drop-drop (7 * i) 3 w, append-assoc (take 3 w) (take (7 * i) (drop 3 w)))
+          rw (part-seven, take-add 3 (7 * i) w, ← drop-drop (7 * i) 3 w, append-assoc (take 3 w) (take (7 * i) (drop 3 w)))
           (drop-at (take 3 w) _ 3 three)
-
-  part-seven : (3 + 7 * i + 7) - (3 + 7 * i) ≡ 7
-  part-seven = omega arith
 
   -- the row that is lent stands for the place
   pub row-is : placeOf (take ((3 + 7 * i + 7) - (3 + 7 * i)) (drop (3 + 7 * i) w)) ≡ at (placesOf w) i

@@ -1,5 +1,4 @@
 -- Laws of `specs/Call.antt`: the place that a call works on, that no other place's bytes change, and that the state keeps its rules. Assumes nothing.
--- ---- the cases of the definitions
 use Prim.Native.Nat.{ℕ, _+_, _*_, _-_, _≤_, _<_}
 use native.Mathlib.Omega.{arith}
 use native.Mathlib.Nat.{mul-le-mul-right}
@@ -9,16 +8,17 @@ use mathlib.Core.Logic.{_⊎_, inl, inr, ⊎-elim}
 use mathlib.Core.List.{List}
 use lib.ListN.{length, getD, set, replicate, length-set, length-replicate}
 use lib.Seq.{paste, length-paste, getD-set-same}
+use lib.Arith.{digits-lt}
 use borrow.Author.Tests.{ltb-true, ltb-false, eq-eqb, ne-eqb}
 use Rattle.sequence_number.specs.Number.{top}
 use Rattle.sequence_number.specs.Outcome.{refused}
 use Rattle.sequence_number.proofs.Split.{split, split-lt, split-eq}
-use Rattle.assembly_record.proofs.AreaLaws.{paste-left, apart, paste-right}
+use Rattle.assembly_record.proofs.AreaLaws.{paste-left, paste-right}
 use Rattle.assembly_record.proofs.FragmentsLaws.{fragment-starts}
 use Rattle.assembly_record.proofs.MarksLaws.{marked-none, length-run, marked-run, covers-past}
 use Rattle.fragment_assembler.proofs.RefusalLaws.{OpenOk, Passed, passed}
 use Rattle.assembly_record.proofs.RulesLaws.{rests-sample}
-use Rattle.assembly_record.proofs.TableLaws.{count-spare, count-full, highest-found, lowest-found, find-hit, spare-find, at-set, howMany-lacks, each-set, find-miss, inside-at}
+use Rattle.assembly_record.proofs.TableLaws.{count-spare, count-full, highest-found, lowest-found, find-hit, spare-find, placeNumber, at-set, howMany-lacks, each-set, find-miss, inside-at}
 use Rattle.fragment_assembler.specs.Call.{begin, known, fresh, settle, kept, dropped, finish, Work, returned, fragment, accepted, afterCall, opened, run, runAt, runLength, Settled, After}
 use Rattle.assembly_record.specs.Table.{victim, has, find, count, isTaken}
 use Rattle.assembly_record.specs.Fragments.{isWhole, brings, firstByte}
@@ -27,6 +27,8 @@ use Rattle.assembly_record.specs.Marks.{covers}
 use Rattle.fragment_assembler.specs.Refusal.{Call, refusal}
 use Rattle.assembly_record.specs.Rules.{Sample, Ok, Distinct, Rests}
 use Rattle.assembly_record.specs.State.{Assembler, Place, free, at}
+
+-- ---- the cases of the definitions
 
 pub begin-known : (a : Assembler) (area : List ℕ) (c : Call) → has (a .places) (c .number) ≡ true → begin a area c ≡ known a area c
 unfolding begin
@@ -79,7 +81,7 @@ pub elsewhere : (p s o n : ℕ) (d x : List ℕ) → o + n ≤ length d → n �
     → (i b : ℕ) → b < p → (i ≡ s → ⊥) → getD (paste d o x n) (i * p + b) 0 ≡ getD d (i * p + b) 0
 elsewhere p s o n d x hd hx h₀ h i b l ne =
     ⊎-elim
-    (λ t. paste-left d o x n hd hx (i * p + b) (omega (arith, apart p i s b t l)))
+    (λ t. paste-left d o x n hd hx (i * p + b) (omega (arith, digits-lt t l)))
     (λ t.
     let k : s < i = omega (arith, ne) in
     paste-right d o x n hd hx (i * p + b) (omega (arith, mul-le-mul-right p k)))
@@ -191,9 +193,6 @@ record Places (f p : ℕ) (ps : List Place) : Type 0 where
   once : Distinct ps
   each : (i : ℕ) → Rests f p (at ps i)
 
-abbrev Num : Place → ℕ
-Num p = p .number
-
 -- the only place of q's number, if any, is s
 abbrev Only : List Place → ℕ → Place → Type 0
 Only ps s q = (j : ℕ) → 0 < q .number → at ps j .number ≡ q .number → j ≡ s
@@ -203,11 +202,11 @@ distinct-set ps s q d o i j p e =
     ⊎-elim
     (λ a.
     ⊎-elim (λ b. a .1 ∙ sym (b .1))
-    (λ b. a .1 ∙ sym (o j (subst (λ (x : Place). 0 < x .number) (a .0) p) (ap Num (sym b) ∙ sym e ∙ ap Num (a .0)))) (at-set ps s q j))
+    (λ b. a .1 ∙ sym (o j (subst (λ (x : Place). 0 < x .number) (a .0) p) (ap placeNumber (sym b) ∙ sym e ∙ ap placeNumber (a .0)))) (at-set ps s q j))
     (λ a.
     ⊎-elim
-    (λ b. o i (subst (λ (x : Place). 0 < x .number) (b .0) (omega arith)) (ap Num (sym a) ∙ e ∙ ap Num (b .0)) ∙ sym (b .1))
-    (λ b. d i j (subst (λ (x : Place). 0 < x .number) a p) (ap Num (sym a) ∙ e ∙ ap Num b)) (at-set ps s q j))
+    (λ b. o i (subst (λ (x : Place). 0 < x .number) (b .0) (omega arith)) (ap placeNumber (sym a) ∙ e ∙ ap placeNumber (b .0)) ∙ sym (b .1))
+    (λ b. d i j (subst (λ (x : Place). 0 < x .number) a p) (ap placeNumber (sym a) ∙ e ∙ ap placeNumber b)) (at-set ps s q j))
     (at-set ps s q i)
 
 module _ (f p : ℕ) where

@@ -7,6 +7,7 @@ use mathlib.Core.List.{List}
 use lib.IntN.{ℤ}
 use Rattle.sequence_number.specs.Number.{numberOf}
 use Rattle.sequence_number.specs.Outcome.{Outcome, refused, done}
+use Rattle.sequence_number.proofs.Determined.{equal-determined, said-determined}
 use Rattle.fragment_assembler.specs.Call.{Fate, fateOf, afterCall, After, kept, returned, dropped}
 use Rattle.fragment_assembler.specs.Clean.{cleanedOf, cleaning, Cleaning}
 use Rattle.fragment_assembler.specs.Missing.{listedOf, missed, Missed}
@@ -28,41 +29,41 @@ use Rattle.fragment_assembler.specs.declared.Listing.the-variants as lis
 
 -- ---- what an answer says determines it
 
-abbrev answer-from : Outcome Fate → Answer
-answer-from (refused n) = answer.Refused n
-answer-from (done kept) = answer.Kept
-answer-from (done (returned n i d)) = answer.Returned n i d
-answer-from (done (dropped n)) = answer.Dropped n
+abbrev answer-back : Outcome Fate → Answer
+answer-back (refused n) = answer.Refused n
+answer-back (done kept) = answer.Kept
+answer-back (done (returned n i d)) = answer.Returned n i d
+answer-back (done (dropped n)) = answer.Dropped n
 
-answer-back : (r : Answer) → answer-from (fateOf r) ≡ r
-answer-back (answer.Refused n) = refl
-answer-back answer.Kept = refl
-answer-back (answer.Returned n i d) = refl
-answer-back (answer.Dropped n) = refl
+answer-back-said : (r : Answer) → answer-back (fateOf r) ≡ r
+answer-back-said (answer.Refused n) = refl
+answer-back-said answer.Kept = refl
+answer-back-said (answer.Returned n i d) = refl
+answer-back-said (answer.Dropped n) = refl
 
-abbrev start-from : Outcome (Unit {0}) → Start
-start-from (refused n) = start.Refused n
-start-from (done x) = start.Ready
+abbrev start-back : Outcome (Unit {0}) → Start
+start-back (refused n) = start.Refused n
+start-back (done x) = start.Ready
 
-start-back : (r : Start) → start-from (startedOf r) ≡ r
-start-back (start.Refused n) = refl
-start-back start.Ready = refl
+start-back-said : (r : Start) → start-back (startedOf r) ≡ r
+start-back-said (start.Refused n) = refl
+start-back-said start.Ready = refl
 
-abbrev cleaned-from : Outcome ℕ → Cleaned
-cleaned-from (refused n) = cleaned.Refused n
-cleaned-from (done n) = cleaned.Dropped n
+abbrev cleaned-back : Outcome ℕ → Cleaned
+cleaned-back (refused n) = cleaned.Refused n
+cleaned-back (done n) = cleaned.Dropped n
 
-cleaned-back : (r : Cleaned) → cleaned-from (cleanedOf r) ≡ r
-cleaned-back (cleaned.Refused n) = refl
-cleaned-back (cleaned.Dropped n) = refl
+cleaned-back-said : (r : Cleaned) → cleaned-back (cleanedOf r) ≡ r
+cleaned-back-said (cleaned.Refused n) = refl
+cleaned-back-said (cleaned.Dropped n) = refl
 
-abbrev listing-from : Outcome ℕ → Listing
-listing-from (refused n) = listing.Refused n
-listing-from (done n) = listing.Listed n
+abbrev listing-back : Outcome ℕ → Listing
+listing-back (refused n) = listing.Refused n
+listing-back (done n) = listing.Listed n
 
-listing-back : (r : Listing) → listing-from (listedOf r) ≡ r
-listing-back (listing.Refused n) = refl
-listing-back (listing.Listed n) = refl
+listing-back-said : (r : Listing) → listing-back (listedOf r) ≡ r
+listing-back-said (listing.Refused n) = refl
+listing-back-said (listing.Listed n) = refl
 
 -- words by the rules that stand for one state are equal
 pub same-words : (w w′ : List ℕ) → Good w → Good w′ → stateOf w ≡ stateOf w′ → w ≡ w′
@@ -74,13 +75,13 @@ pub set-up-determined : (w : List ℕ) (f : ℕ) (reliable : Bool) (p : ℕ) (r 
     → SetsUp w f reliable p r w₁ → SetsUp w f reliable p r′ w₂ → (r ≡ r′) × (w₁ ≡ w₂)
 set-up-determined w f reliable p r r′ w₁ w₂ h k =
     let e : setting (startedOf r) w₁ ≡ setting (startedOf r′) w₂ = h .same ∙ sym (k .same) in
-    (sym (start-back r) ∙ ap (λ (s : Setting). start-from (s .answer)) e ∙ start-back r′, ap (λ (s : Setting). s .words) e)
+    (said-determined startedOf start-back start-back-said r r′ (ap (λ (s : Setting). s .answer) e) refl, ap (λ (s : Setting). s .words) e)
 
 pub new-datafrag-determined : (w area : List ℕ) (c : Call) (r r′ : Answer) (w₁ w₂ after after′ : List ℕ)
     → Does w area c r w₁ after → Does w area c r′ w₂ after′ → (r ≡ r′) × (w₁ ≡ w₂) × (after ≡ after′)
 new-datafrag-determined w area c r r′ w₁ w₂ after after′ h k =
     let e : afterCall (fateOf r) (stateOf w₁) after ≡ afterCall (fateOf r′) (stateOf w₂) after′ = h .same ∙ sym (k .same) in (
-      sym (answer-back r) ∙ ap (λ (o : After). answer-from (o .answer)) e ∙ answer-back r′,
+      said-determined fateOf answer-back answer-back-said r r′ (ap (λ (o : After). o .answer) e) refl,
       same-words w₁ w₂ (h .good) (k .good) (ap (λ (o : After). o .state) e),
       ap (λ (o : After). o .area) e,
     )
@@ -89,7 +90,7 @@ pub garbage-collect-before-determined : (w : List ℕ) (t : ℕ) (out : List ℤ
     → Cleans w t out r w₁ after → Cleans w t out r′ w₂ after′ → (r ≡ r′) × (w₁ ≡ w₂) × (after ≡ after′)
 garbage-collect-before-determined w t out r r′ w₁ w₂ after after′ h k =
     let e : cleaning (cleanedOf r) (stateOf w₁) after ≡ cleaning (cleanedOf r′) (stateOf w₂) after′ = h .same ∙ sym (k .same) in (
-      sym (cleaned-back r) ∙ ap (λ (o : Cleaning). cleaned-from (o .answer)) e ∙ cleaned-back r′,
+      said-determined cleanedOf cleaned-back cleaned-back-said r r′ (ap (λ (o : Cleaning). o .answer) e) refl,
       same-words w₁ w₂ (h .good) (k .good) (ap (λ (o : Cleaning). o .state) e),
       ap (λ (o : Cleaning). o .list) e,
     )
@@ -98,18 +99,14 @@ pub missing-frags-for-determined : (w : List ℕ) (n : ℕ) (out : List ℕ) (r 
     → Misses w n out r after → Misses w n out r′ after′ → (r ≡ r′) × (after ≡ after′)
 missing-frags-for-determined w n out r r′ after after′ h k =
     let e : missed (listedOf r) after ≡ missed (listedOf r′) after′ = h .same ∙ sym (k .same) in
-    (sym (listing-back r) ∙ ap (λ (o : Missed). listing-from (o .answer)) e ∙ listing-back r′, ap (λ (o : Missed). o .list) e)
-
--- a call whose promise is one equation for what it returns
-determined : {A : Type 0} (x r r′ : A) → r ≡ x → r′ ≡ x → r ≡ r′
-determined x r r′ h k = h ∙ sym k
+    (said-determined listedOf listing-back listing-back-said r r′ (ap (λ (o : Missed). o .answer) e) refl, ap (λ (o : Missed). o .list) e)
 
 pub view-determined : (w area : List ℕ) (i n : ℕ) (r r′ : List ℕ) → r ≡ shown (stateOf w) area i n → r′ ≡ shown (stateOf w) area i n → r ≡ r′
-view-determined w area i n r r′ h k = determined (shown (stateOf w) area i n) r r′ h k
+view-determined w area i n r r′ = equal-determined
 
 pub is-partially-received-determined : (w : List ℕ) (n : ℤ) (r r′ : Bool) → r ≡ inAssembly (stateOf w .places) (numberOf n)
     → r′ ≡ inAssembly (stateOf w .places) (numberOf n) → r ≡ r′
-is-partially-received-determined w n r r′ h k = determined (inAssembly (stateOf w .places) (numberOf n)) r r′ h k
+is-partially-received-determined w n r r′ = equal-determined
 
 pub in-assembly-determined : (w : List ℕ) (r r′ : ℕ) → r ≡ count (stateOf w .places) → r′ ≡ count (stateOf w .places) → r ≡ r′
-in-assembly-determined w r r′ h k = determined (count (stateOf w .places)) r r′ h k
+in-assembly-determined w r r′ = equal-determined

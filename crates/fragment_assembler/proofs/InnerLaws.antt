@@ -10,6 +10,7 @@ use lib.Seq.{paste, getD-set-same, getD-set-other, set-set, set-getD}
 use lib.Dec.{eqb}
 use borrow.Author.Tests.{lt-ltb, le-ltb}
 use Rattle.sequence_number.specs.Outcome.{Outcome, refused, done}
+use Rattle.sequence_number.proofs.Split.{clash}
 use Rattle.fragment_assembler.proofs.CallLaws.{settle-kept, victim-found, settle-dropped, finish-whole, finish-not, inside, run-start, fragment-accepted, fragment-ok, fragment-refused, begin-known, opened-sample, begin-fresh}
 use Rattle.assembly_record.proofs.FragmentsLaws.{fragment-starts}
 use Rattle.fragment_assembler.proofs.RefusalLaws.{Passed, passed}
@@ -18,10 +19,9 @@ use Rattle.assembly_record.proofs.TableLaws.{find-hit, find-some}
 use Rattle.assembly_record.proofs.WordsLaws.{head-same, became-then, length-places, size-at, state-became, same}
 use Rattle.fragment_assembler.specs.Call.{Settled, settle, dropped, finish, returned, fragment, run, Work, begin, accepted, afterCall, fateOf, Fate, After, opened}
 use Rattle.assembly_record.specs.Table.{victim, find, count, has}
-use Rattle.assembly_record.specs.Fragments.{isWhole, fragments, brings}
+use Rattle.assembly_record.specs.Fragments.{isWhole, brings}
 use Rattle.assembly_record.specs.Rows.{Became, ran, openedRow}
 use Rattle.fragment_assembler.specs.Inner.{Ends, workOf, Closes, Runs, Worked, RunOk}
-use Rattle.assembly_record.specs.Marks.{all, marked}
 use Rattle.fragment_assembler.specs.Promise.{Does}
 use Rattle.fragment_assembler.specs.Refusal.{Call, refusal, callOf}
 use Rattle.assembly_record.specs.Rules.{Good, Ok}
@@ -202,8 +202,8 @@ module _ (w area : List ℕ) (time number size total start count : ℕ) (payload
       }
 
   module _ (e : refusal (stateOf w) (length area) (callOf time number size total start count payload) ≡ 0) where
-    the : Passed (stateOf w) (length area) (callOf time number size total start count payload)
-    the = passed (stateOf w) (length area) (callOf time number size total start count payload) e
+    pass : Passed (stateOf w) (length area) (callOf time number size total start count payload)
+    pass = passed (stateOf w) (length area) (callOf time number size total start count payload) e
 
     is-open : find number (placesOf w) < 129 → has (placesOf w) number ≡ true
     unfolding has
@@ -218,7 +218,7 @@ module _ (w area : List ℕ) (time number size total start count : ℕ) (payload
       runs-known =
           let q : at (placesOf w) (find number (placesOf w)) ≡ at (placesOf w) k = ap (at (placesOf w)) (sym ek) in
           let ok : RunOk (at (placesOf w) k .size) (getD w 0 0) (callOf time number size total start count payload) =
-          subst (λ (p : Place). RunOk (p .size) (getD w 0 0) (callOf time number size total start count payload)) q (rw (is-open (omega arith)) at (the .run)) in
+          subst (λ (p : Place). RunOk (p .size) (getD w 0 0) (callOf time number size total start count payload)) q (rw (is-open (omega arith)) at (pass .run)) in
           let hit : at (placesOf w) k .number ≡ number =
           (ap (λ (j : ℕ). at (placesOf w) j .number) ek ∙ find-hit number (placesOf w) (omega (arith, length-places w))) in
           record {
@@ -227,8 +227,8 @@ module _ (w area : List ℕ) (time number size total start count : ℕ) (payload
             some = g .ok .some;
             fragmentSize = g .ok .fragmentSize;
             placeSize = g .ok .placeSize;
-            long = the .long;
-            sample = rests-sample (getD w 0 0) (getD w 1 0) (at (placesOf w) k) (g .ok .each k) (omega (arith, the .low, hit));
+            long = pass .long;
+            sample = rests-sample (getD w 0 0) (getD w 1 0) (at (placesOf w) k) (g .ok .each k) (omega (arith, pass .low, hit));
             ok = record { some = ok .some; start = ok .start; fits = ok .fits };
             spare = λ _. good-spare w g;
           }
@@ -247,7 +247,7 @@ module _ (w area : List ℕ) (time number size total start count : ℕ) (payload
       free-in = omega (arith, good-spare w g)
 
       pub clear-fits : s * getD w 1 0 + total ≤ length area
-      clear-fits = inside (getD w 1 0) s (length area) total free-in (the .new (not-open none) .most) (the .long)
+      clear-fits = inside (getD w 1 0) s (length area) total free-in (pass .new (not-open none) .most) (pass .long)
 
       module _ (w₁ : List ℕ) (b : Became w (set (placesOf w) s (placeOf (openedRow number total))) w₁) where
         opened-at : at (placesOf w₁) s ≡ opened (callOf time number size total start count payload)
@@ -255,8 +255,8 @@ module _ (w area : List ℕ) (time number size total start count : ℕ) (payload
 
         pub runs-fresh : (n : ℕ) → n ≡ length area → Runs w₁ n s true (callOf time number 0 0 start count payload)
         runs-fresh n en =
-            let o = the .new (not-open none) in
-            let r : RunOk total (getD w 0 0) (callOf time number size total start count payload) = rw (not-open none) at (the .run) in
+            let o = pass .new (not-open none) in
+            let r : RunOk total (getD w 0 0) (callOf time number size total start count payload) = rw (not-open none) at (pass .run) in
             let u : getD w₁ 0 0 ≡ getD w 0 0 = head-same w w₁ 0 (omega arith) (b .head) in
             let p : getD w₁ 1 0 ≡ getD w 1 0 = head-same w w₁ 1 (omega arith) (b .head) in
             record {
@@ -265,12 +265,12 @@ module _ (w area : List ℕ) (time number size total start count : ℕ) (payload
               some = omega (arith, g .ok .some);
               fragmentSize = omega (arith, g .ok .fragmentSize);
               placeSize = omega (arith, g .ok .placeSize);
-              long = omega (arith, the .long);
+              long = omega (arith, pass .long);
               sample =
                   rw (opened-at, u, p)
-                  (opened-sample (getD w 0 0) (getD w 1 0) (callOf time number size total start count payload) (the .low) (the .high) o);
+                  (opened-sample (getD w 0 0) (getD w 1 0) (callOf time number size total start count payload) (pass .low) (pass .high) o);
               ok = rw (opened-at, u) (record { some = r .some; start = r .start; fits = r .fits });
-              spare = λ e. let z : _≡_ {A = ℕ} 0 1 = cc in absurd (omega arith);
+              spare = λ e. absurd (clash true refl e);
             }
 
         pub does-fresh : (r : Answer) (area₁ w′ after : List ℕ) → area₁ ≡ paste area (s * getD w 1 0) (replicate total 0) total

@@ -8,7 +8,7 @@ use mathlib.Core.List.{List, [], List·Memᴰ}
 use lib.ListN.{length, getD, take, drop}
 use borrow.Author.Tests.{lt-ltb, le-ltb, eq-eqb, ne-eqb}
 use Rattle.sequence_number.specs.Lent.{over}
-use Rattle.sequence_number.specs.Outcome.{refused, done}
+use Rattle.sequence_number.specs.Outcome.{done}
 use Rattle.sequence_number.proofs.Split.{split}
 use Rattle.assembly_record.proofs.GapsLaws.{gaps-in, gaps-all, gaps-rise}
 use Rattle.assembly_record.proofs.WordsLaws.{length-places, marks-at, size-at}
@@ -64,12 +64,6 @@ module _ (w : List ℕ) (n k f : ℕ) (z : n ≡ 0 → ⊥) (e : k ≡ find n (p
               (ap (λ (j : ℕ). missed (done j) after) (ec ∙ ap length (sym missing-are))
               ∙ ap (missed (done (length (missing (stateOf w) n)))) (ea ∙ ap (λ (g : List ℕ). over g out) (sym missing-are)));
         }
-
-pub missing-cases : (a : Assembler) (n : ℕ) (out : List ℕ)
-    → (length out < length (missing a n) → missingFor a n out ≡ missed (refused 3) out)
-    × (length (missing a n) ≤ length out → missingFor a n out ≡ missed (done (length (missing a n))) (over (missing a n) out))
-unfolding missingFor
-missing-cases a n out = (λ h. rw (lt-ltb (length out) (length (missing a n)) h), λ h. rw (le-ltb (length out) (length (missing a n)) h))
 
 -- ---- the list that is written
 

@@ -1,5 +1,4 @@
 -- Where the bytes of an accepted call lie, and what its answer says: the laws behind the theorems of `proofs/Promises.antt`. Assumes nothing.
--- ---- bytes outside a paste, either side
 use Prim.Native.Nat.{ℕ, _+_, _*_, _-_, _≤_, _<_}
 use native.Mathlib.Omega.{arith}
 use native.Mathlib.Nat.{mul-le-mul-right}
@@ -22,8 +21,10 @@ use Rattle.assembly_record.specs.Table.{victim, count, has, find}
 use Rattle.assembly_record.specs.Marks.{marked, covers}
 use Rattle.fragment_assembler.specs.Refusal.{Call, refusal}
 use Rattle.assembly_record.specs.Rules.{Ok}
-use Rattle.assembly_record.specs.State.{Assembler, at, free, Place}
+use Rattle.assembly_record.specs.State.{Assembler, free, Place}
 use Rattle.fragment_assembler.specs.View.{shown}
+
+-- ---- bytes outside a paste, either side
 
 outside : (d : List ℕ) (i : ℕ) (s : List ℕ) (n : ℕ) → i + n ≤ length d → n ≤ length s → (x : ℕ) → (x < i) ⊎ (i + n ≤ x)
     → getD (paste d i s n) x 0 ≡ getD d x 0
@@ -34,8 +35,8 @@ in-fragment : (s n k f b : ℕ) → s ≤ k - 1 → k ≤ s + n → (k - 1) * f 
 in-fragment s n k f b h l lo hi = (omega (arith, mul-le-mul-right f h), omega (arith, mul-le-mul-right f l))
 
 module _ (a : Assembler) (area : List ℕ) (c : Call) (g : Ok a) (e : refusal a (length area) c ≡ 0) where
-  abbrev w : Work
-  w = begin a area c
+  abbrev start : Work
+  start = begin a area c
 
   pass : Passed a (length area) c
   pass = passed a (length area) c e
@@ -47,7 +48,7 @@ module _ (a : Assembler) (area : List ℕ) (c : Call) (g : Ok a) (e : refusal a 
   unfolding accepted
   area-is = ap (λ (o : After). o .area) (fragment-accepted a area c e)
 
-  pub placed-seat : (w .seat < 129) × (w .seat ≡ cond (has (a .places) (c .number)) (find (c .number) (a .places)) (find 0 (a .places)))
+  pub placed-seat : (start .seat < 129) × (start .seat ≡ cond (has (a .places) (c .number)) (find (c .number) (a .places)) (find 0 (a .places)))
   placed-seat = (
     work .within,
     split (has (a .places) (c .number)) (λ t. ap (λ (x : Work). x .seat) (begin-known a area c t) ∙ rw t)
@@ -55,42 +56,42 @@ module _ (a : Assembler) (area : List ℕ) (c : Call) (g : Ok a) (e : refusal a 
   )
 
   pub placed-long : length (fragment a area c .area) ≡ length area
-  placed-long = ap length area-is ∙ ran-long a area c g pass w work
+  placed-long = ap length area-is ∙ ran-long a area c g pass start work
 
-  pub placed-run : (j : ℕ) → j < runLength a c w → getD (fragment a area c .area) (runAt a c w + j) 0 ≡ getD (c .payload) j 0
+  pub placed-run : (j : ℕ) → j < runLength a c start → getD (fragment a area c .area) (runAt a c start + j) 0 ≡ getD (c .payload) j 0
   unfolding run
   placed-run j h =
-      ap (λ (l : List ℕ). getD l (runAt a c w + j) 0) area-is
-      ∙ paste-in (w .area) (runAt a c w) (c .payload) (runLength a c w) (run-long a area c g pass w work) (omega arith) j h
+      ap (λ (l : List ℕ). getD l (runAt a c start + j) 0) area-is
+      ∙ paste-in (start .area) (runAt a c start) (c .payload) (runLength a c start) (run-long a area c g pass start work) (omega arith) j h
 
-  pub placed-fragment : (k b : ℕ) → c .start ≤ k → k < c .start + c .count → firstByte k (a .fragmentSize) ≤ b → b < endByte k (a .fragmentSize) (w .place .size)
+  pub placed-fragment : (k b : ℕ) → c .start ≤ k → k < c .start + c .count → firstByte k (a .fragmentSize) ≤ b → b < endByte k (a .fragmentSize) (start .place .size)
       → b - firstByte (c .start) (a .fragmentSize) < length (c .payload)
-      → getD (fragment a area c .area) (w .seat * a .placeSize + b) 0 ≡ getD (c .payload) (b - firstByte (c .start) (a .fragmentSize)) 0
+      → getD (fragment a area c .area) (start .seat * a .placeSize + b) 0 ≡ getD (c .payload) (b - firstByte (c .start) (a .fragmentSize)) 0
   placed-fragment k b lo hi h l p =
       let i = in-fragment (c .start - 1) (c .count) k (a .fragmentSize) b (omega arith) (omega (arith, work .ok .start)) h (omega arith) in
-      let at : w .seat * a .placeSize + b ≡ runAt a c w + (b - firstByte (c .start) (a .fragmentSize)) = omega (arith, i .0) in
+      let at : start .seat * a .placeSize + b ≡ runAt a c start + (b - firstByte (c .start) (a .fragmentSize)) = omega (arith, i .0) in
       ap (λ (x : ℕ). getD (fragment a area c .area) x 0) at
       ∙ placed-run (b - firstByte (c .start) (a .fragmentSize)) (omega (arith, i .0, i .1))
 
   -- outside the run the area is what it was after the opening
-  outside-run : (x : ℕ) → (x < runAt a c w) ⊎ (runAt a c w + runLength a c w ≤ x) → getD (fragment a area c .area) x 0 ≡ getD (w .area) x 0
+  outside-run : (x : ℕ) → (x < runAt a c start) ⊎ (runAt a c start + runLength a c start ≤ x) → getD (fragment a area c .area) x 0 ≡ getD (start .area) x 0
   unfolding run
   outside-run x h =
       ap (λ (l : List ℕ). getD l x 0) area-is
-      ∙ outside (w .area) (runAt a c w) (c .payload) (runLength a c w) (run-long a area c g pass w work) (omega arith) x h
+      ∙ outside (start .area) (runAt a c start) (c .payload) (runLength a c start) (run-long a area c g pass start work) (omega arith) x h
 
-  pub placed-others : has (a .places) (c .number) ≡ true → (x : ℕ) → (x < runAt a c w) ⊎ (runAt a c w + runLength a c w ≤ x)
+  pub placed-others : has (a .places) (c .number) ≡ true → (x : ℕ) → (x < runAt a c start) ⊎ (runAt a c start + runLength a c start ≤ x)
       → getD (fragment a area c .area) x 0 ≡ getD area x 0
   placed-others t x h = outside-run x h ∙ ap (λ (y : Work). getD (y .area) x 0) (begin-known a area c t)
 
   module _ (t : has (a .places) (c .number) ≡ false) where
-    is-fresh : w ≡ fresh a area c
+    is-fresh : start ≡ fresh a area c
     is-fresh = begin-fresh a area c t
 
-    seat-is : w .seat ≡ find 0 (a .places)
+    seat-is : start .seat ≡ find 0 (a .places)
     seat-is = ap (λ (y : Work). y .seat) is-fresh
 
-    size-is : w .place .size ≡ c .total
+    size-is : start .place .size ≡ c .total
     size-is = ap (λ (y : Work). y .place .size) is-fresh
 
     zeros : c .total ≤ length {A = ℕ} (replicate (c .total) 0)
@@ -101,32 +102,32 @@ module _ (a : Assembler) (area : List ℕ) (c : Call) (g : Ok a) (e : refusal a 
         inside (a .placeSize) (find 0 (a .places)) (length area) (c .total) (subst (λ (s : ℕ). s < 129) seat-is (work .within)) (pass .new t .most) (pass .long)
 
     pub placed-zero : (b : ℕ) → b < c .total
-        → (b < firstByte (c .start) (a .fragmentSize)) ⊎ (firstByte (c .start) (a .fragmentSize) + runLength a c w ≤ b)
-        → getD (fragment a area c .area) (w .seat * a .placeSize + b) 0 ≡ 0
+        → (b < firstByte (c .start) (a .fragmentSize)) ⊎ (firstByte (c .start) (a .fragmentSize) + runLength a c start ≤ b)
+        → getD (fragment a area c .area) (start .seat * a .placeSize + b) 0 ≡ 0
     placed-zero b l h =
-        outside-run (w .seat * a .placeSize + b) (⊎-elim (λ k. inl (omega arith)) (λ k. inr (omega arith)) h)
+        outside-run (start .seat * a .placeSize + b) (⊎-elim (λ k. inl (omega arith)) (λ k. inr (omega arith)) h)
         ∙ ap (λ (y : Work). getD (y .area) (y .seat * a .placeSize + b) 0) is-fresh
         ∙ paste-in area (find 0 (a .places) * a .placeSize) (replicate (c .total) 0) (c .total) fits zeros b l
         ∙ getD-replicate (c .total) b 0 0 l
 
-    pub placed-others-opening : (x : ℕ) → (x < w .seat * a .placeSize) ⊎ (w .seat * a .placeSize + c .total ≤ x)
+    pub placed-others-opening : (x : ℕ) → (x < start .seat * a .placeSize) ⊎ (start .seat * a .placeSize + c .total ≤ x)
         → getD (fragment a area c .area) x 0 ≡ getD area x 0
     placed-others-opening x h =
-        let s : w .seat * a .placeSize ≡ find 0 (a .places) * a .placeSize = ap (λ (k : ℕ). k * a .placeSize) seat-is in
-        outside-run x (⊎-elim (λ k. inl (omega arith)) (λ k. inr (omega (arith, run-within a area c g pass w work, size-is))) h)
+        let s : start .seat * a .placeSize ≡ find 0 (a .places) * a .placeSize = ap (λ (k : ℕ). k * a .placeSize) seat-is in
+        outside-run x (⊎-elim (λ k. inl (omega arith)) (λ k. inr (omega (arith, run-within a area c g pass start work, size-is))) h)
         ∙ ap (λ (y : Work). getD (y .area) x 0) is-fresh
         ∙ outside area (find 0 (a .places) * a .placeSize) (replicate (c .total) 0) (c .total) fits zeros x
         (⊎-elim (λ k. inl (omega arith)) (λ k. inr (omega arith)) h)
 
   -- ---- what the answer says
 
-  pub ran-as : (run a c w .place .number ≡ c .number) × (run a c w .place .time ≡ c .time)
-      × ((j : ℕ) → marked (run a c w .place .marks) j ≡ marked (w .place .marks) j || covers (c .start - 1) (c .count) j)
+  pub ran-as : (run a c start .place .number ≡ c .number) × (run a c start .place .time ≡ c .time)
+      × ((j : ℕ) → marked (run a c start .place .marks) j ≡ marked (start .place .marks) j || covers (c .start - 1) (c .count) j)
   unfolding run
   ran-as = (
     refl,
     refl,
-    λ j. marked-run (w .place .marks) (c .start - 1) (c .count) j (work .sample .long) (omega (arith, work .ok .fits, work .sample .few)),
+    λ j. marked-run (start .place .marks) (c .start - 1) (c .count) j (work .sample .long) (omega (arith, work .ok .fits, work .sample .few)),
   )
 
   abbrev worked : Work
@@ -141,12 +142,12 @@ module _ (a : Assembler) (area : List ℕ) (c : Call) (g : Ok a) (e : refusal a 
   )
 
   pub ends-returned : isWhole (a .fragmentSize) (worked .place) ≡ true
-      → (fragment a area c .answer ≡ done (returned (c .number) (w .seat) (w .place .size))) × (fragment a area c .state .places ≡ set (a .places) (w .seat) free)
+      → (fragment a area c .answer ≡ done (returned (c .number) (start .seat) (start .place .size))) × (fragment a area c .state .places ≡ set (a .places) (start .seat) free)
   unfolding run
   ends-returned t = ends-as-finish _ (finish-whole a worked t)
 
   abbrev table : List Place
-  table = set (a .places) (w .seat) (worked .place)
+  table = set (a .places) (start .seat) (worked .place)
 
   pub ends-drops : isWhole (a .fragmentSize) (worked .place) ≡ false → count table ≡ 129
       → (fragment a area c .answer ≡ done (dropped (victim (a .reliable) table)))
@@ -169,7 +170,7 @@ module _ (a : Assembler) (area : List ℕ) (c : Call) (g : Ok a) (e : refusal a 
       (λ f. let k = ends-keeps t f .0 in let z : _≡_ {A = ℕ} 0 1 = cc in absurd (omega arith)) (split-eq (count table) 129))
 
   pub ends-returned-only : (n i d : ℕ) → fragment a area c .answer ≡ done (returned n i d)
-      → (isWhole (a .fragmentSize) (worked .place) ≡ true) × (n ≡ c .number) × (i ≡ w .seat) × (d ≡ w .place .size)
+      → (isWhole (a .fragmentSize) (worked .place) ≡ true) × (n ≡ c .number) × (i ≡ start .seat) × (d ≡ start .place .size)
   ends-returned-only n i d h =
       split (isWhole (a .fragmentSize) (worked .place))
       (λ t. let k = ends-returned t .0 in (t, cc, cc, cc))
@@ -184,5 +185,5 @@ module _ (a : Assembler) (area : List ℕ) (c : Call) (g : Ok a) (e : refusal a 
   shown-whole n i d h =
       let k = ends-returned-only n i d h in
       let l : i * a .placeSize + d ≤ length (fragment a area c .area) =
-      (rw (k .2, k .3) (omega (arith, inside (a .placeSize) (w .seat) (length area) (w .place .size) (work .within) (work .sample .most) (pass .long), placed-long))) in
+      (rw (k .2, k .3) (omega (arith, inside (a .placeSize) (start .seat) (length area) (start .place .size) (work .within) (work .sample .most) (pass .long), placed-long))) in
       rw (le-leb (i * a .placeSize + d) (length (fragment a area c .area)) l)

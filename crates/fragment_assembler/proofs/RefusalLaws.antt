@@ -1,5 +1,4 @@
 -- Laws of `specs/Refusal.antt`: each case as the code tests it, and what an accepted call has passed. Assumes nothing.
--- ---- a run's rows
 use Prim.Native.Nat.{ℕ, _+_, _*_, _-_, _≤_, _<_}
 use native.Mathlib.Omega.{arith}
 use mathlib.Core.Path.{_≡_, refl, subst}
@@ -15,13 +14,14 @@ use mir.Facts.{toZ-ofZ}
 use borrow.Author.Tests.{ltb-false, leb-false, eqb-true, eqb-false, not-false, lt-ltb, le-ltb, lt-leb, eq-eqb, ne-eqb}
 use Rattle.sequence_number.specs.Number.{top, numberOf, isNumber}
 use Rattle.sequence_number.proofs.NumberLaws.{number-passed}
-use Rattle.sequence_number.proofs.Split.{split, split-lt}
-use Rattle.fragment_assembler.specs.Call.{opened}
+use Rattle.sequence_number.proofs.Split.{split, split-lt, neither}
 use Rattle.assembly_record.specs.Fragments.{fragments}
 use Rattle.fragment_assembler.specs.Inner.{RunOk}
 use Rattle.fragment_assembler.specs.Refusal.{runRefusal, rows, row, Call, refusal, opens, first, runRows, Row, callOf, sizeFor}
 use Rattle.assembly_record.specs.State.{Assembler, at}
-use Rattle.assembly_record.specs.Table.{count, find, has}
+use Rattle.assembly_record.specs.Table.{find, has}
+
+-- ---- a run's rows
 
 module _ (most start count : ℕ) where
   pub run-10 : count ≡ 0 → 10 ≡ runRefusal most start count
@@ -126,10 +126,6 @@ first-none [] h e = tt
 first-none (r ∷ rs) h e =
     split (r .holds) (λ t. absurd (omega (arith, h .0, rw t at e))) (λ t. (t, first-none rs (h .1) (rw t at e)))
 
-or-left : (a b : Bool) → a || b ≡ false → (a ≡ false) × (b ≡ false)
-or-left true b e = let z : _≡_ {A = ℕ} 0 1 = cc in absurd (omega arith)
-or-left false b e = (refl, e)
-
 pub record OpenOk (p f : ℕ) (c : Call) : Type 0 where
   pub least : f ≤ c .total
   pub most : c .total ≤ p
@@ -149,7 +145,7 @@ passed a n c e =
     let r = first-none (rows a n c) numbered e in
     let r7 = r .1 .1 .1 in
     let r10 = r7 .1 .1 .1 in
-    let n4 = or-left (eqb (c .number) 0) (leb top (c .number)) (r .1 .0) in
+    let n4 = neither (eqb (c .number) 0) (leb top (c .number)) (r .1 .0) in
     let number : c .number ≡ 0 → ⊥ = eqb-false _ _ (n4 .0) in
     let count : c .count ≡ 0 → ⊥ = eqb-false _ _ (r10 .0) in
     let start : c .start ≡ 0 → ⊥ = eqb-false _ _ (r10 .1 .0) in

@@ -11,21 +11,17 @@ use borrow.Author.Tests.{lt-ltb, le-ltb, eq-eqb, ne-eqb}
 use Rattle.sequence_number.specs.Lent.{over}
 use Rattle.sequence_number.specs.Outcome.{refused, done}
 use Rattle.assembly_record.proofs.RulesLaws.{ok-good}
+use Rattle.assembly_record.proofs.TableLaws.{at-free}
 use Rattle.fragment_assembler.specs.Promise.{SetsUp}
 use Rattle.assembly_record.specs.Rules.{Ok, Good}
 use Rattle.fragment_assembler.specs.SetUp.{empty, setUp, setUpRefusal, setting, startedOf}
-use Rattle.assembly_record.specs.State.{at, free, Place}
+use Rattle.assembly_record.specs.State.{free, Place}
 use Rattle.assembly_record.specs.Table.{count}
 use Rattle.assembly_record.specs.Words.{tableOf, bit, recordOf}
 use Rattle.fragment_assembler.specs.declared.Start.{Start}
 use Rattle.fragment_assembler.specs.declared.Start.the-variants.{Refused, Ready}
 
 -- ---- a fresh assembler
-
-at-free : (n i : ℕ) → at (replicate n free) i ≡ free
-at-free zero i = refl
-at-free (suc n) zero = refl
-at-free (suc n) (suc i) = at-free n i
 
 none-taken : (n : ℕ) → count (replicate n free) ≡ 0
 none-taken zero = refl

@@ -1,3 +1,4 @@
+pub mod BlockLaws
 pub mod StarveLaws
 pub mod StarveCalls
 pub mod StarveExample

@@ -1,14 +1,13 @@
 -- Demand 3 of the public calls: a chain of them, by nothing but their promises, is a chain of the statement. Assumes nothing.
 use Prim.Native.Nat.{ℕ, _+_, _*_}
-use native.Mathlib.Omega.{arith}
-use mathlib.Core.Path.{_≡_, sym, ap, subst, _∙_}
+use mathlib.Core.Path.{_≡_, refl, sym, ap, subst, _∙_}
 use mathlib.Core.Bool.{Bool, true, false, cond}
 use mathlib.Core.Logic.{_⊎_, inl, inr, ⊎-elim}
 use mathlib.Core.List.{List, [], _∷_}
 use lib.ListN.{length, take, drop}
 use lib.IntN.{ℤ}
 use lib.Dec.{leb}
-use Rattle.sequence_number.proofs.Split.{split-eq}
+use Rattle.sequence_number.proofs.Split.{split-eq, clash}
 use Rattle.fragment_assembler.proofs.CallLaws.{fragment-refused, fragment-accepted}
 use Rattle.no_starvation.proofs.StarveLaws.{not-starved, others-silent}
 use Rattle.fragment_assembler.specs.Call.{After, fateOf, accepted, fragment}
@@ -44,23 +43,14 @@ accepted-shows a area c e =
     ⊎-elim (λ z. z)
     (λ z.
     let k : _≡_ {A = Bool} true false = ap (λ (o : After). isRefused (o .answer)) (sym (fragment-refused a area c z)) ∙ e in
-    let y : _≡_ {A = ℕ} 0 1 = cc in
-    absurd (omega arith))
+    absurd (clash true refl k))
     (split-eq (refusal a (length area) c) 0)
 
 refused-shows : (a : Assembler) (area : List ℕ) (c : Call) → isRefused (fragment a area c .answer) ≡ true → refusal a (length area) c ≡ 0 → ⊥
 unfolding accepted
 refused-shows a area c e z =
     let k : _≡_ {A = Bool} false true = ap (λ (o : After). isRefused (o .answer)) (sym (fragment-accepted a area c z)) ∙ e in
-    let y : _≡_ {A = ℕ} 0 1 = cc in
-    omega arith
-
--- the words keep their rules along the calls
-calls-good : {N : ℕ} {B w area : List ℕ} {rs : List Run} {time : ℕ} → Calls N B w area rs time → Good w
-calls-good (starve.Calls.start g r ab) = g
-calls-good (starve.Calls.own h c r w′ area′ d cn ok cut silent low) = d .good
-calls-good (starve.Calls.other h c r w′ area′ d o low) = d .good
-calls-good (starve.Calls.cleaned h cutoff out r w′ out′ d le low) = d .good
+    clash false k refl
 
 chain-of : {N : ℕ} {B w area : List ℕ} {rs : List Run} {time : ℕ} → Calls N B w area rs time → Chain N B (moment (stateOf w) area) rs time
 chain-of (starve.Calls.start g r ab) = starve.Chain.start (g .ok) r ab

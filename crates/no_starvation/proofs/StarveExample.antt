@@ -1,9 +1,9 @@
 -- Demand 3 is not vacuous: a chain that meets every premise, with another number, a refused call, a cleaning and a look in between, by computation.
 -- Assumes nothing.
-use Prim.Native.Nat.{ℕ}
+use Prim.Native.Nat.{ℕ, _*_}
 use native.Mathlib.Omega.{arith}
 use mathlib.Core.Path.{_≡_, refl}
-use mathlib.Core.Bool.{true}
+use mathlib.Core.Bool.{Bool, true}
 use mathlib.Core.Logic.{inl, inr}
 use mathlib.Core.List.{List, [], _∷_}
 use lib.ListN.{replicate}
@@ -22,12 +22,13 @@ use Rattle.assembly_record.specs.Table.{has}
 use Rattle.fragment_assembler.specs.View.{shown}
 use Rattle.no_starvation.specs.Starve as starve
 
--- block 5, three bytes in two fragments of two; places of four bytes in an area of old bytes
+-- a fresh assembler, and an area of old bytes
+abbrev pub begins : ℕ → Bool → ℕ → Moment
+begins fragmentSize reliable placeSize = moment (empty fragmentSize reliable placeSize) (replicate (129 * placeSize) 9)
+
+-- block 5, three bytes in two fragments of two; places of four bytes
 abbrev block : List ℕ
 block = 1 ∷ (2 ∷ (3 ∷ []))
-
-abbrev begins : Moment
-begins = moment (empty 2 true 4) (replicate 516 9)
 
 -- its first fragment, at time 10
 abbrev one : Call
@@ -46,7 +47,7 @@ abbrev two : Call
 two = callOf 6 5 2 3 2 1 (3 ∷ [])
 
 abbrev m₁ : Moment
-m₁ = after begins (arrives one)
+m₁ = after (begins 2 true 4) (arrives one)
 
 abbrev m₂ : Moment
 m₂ = after m₁ (arrives another)
@@ -68,7 +69,7 @@ example =
     (starve.Chain.other
     (starve.Chain.other
     (starve.Chain.other
-    (starve.Chain.own (starve.Chain.start {m = begins} {time = 0} (empty-ok 2 true 4 (omega arith) (omega arith) (omega arith) (omega arith)) refl refl) one refl refl
+    (starve.Chain.own (starve.Chain.start {m = begins 2 true 4} {time = 0} (empty-ok 2 true 4 (omega arith) (omega arith) (omega arith) (omega arith)) refl refl) one refl refl
     (record { total = refl; begins = refl }) refl (omega arith))
     (arrives another) (inl (λ e. omega arith)) (omega arith))
     (arrives wrong) (inr (λ e. omega arith)) (omega arith))

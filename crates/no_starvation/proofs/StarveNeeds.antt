@@ -10,6 +10,7 @@ use lib.IntN.{pos}
 use Rattle.sequence_number.specs.Outcome.{done}
 use Rattle.fragment_assembler.proofs.CallLaws.{fragment-ok}
 use Rattle.fragment_assembler.proofs.SetUpLaws.{empty-ok}
+use Rattle.no_starvation.proofs.StarveExample.{begins}
 use Rattle.fragment_assembler.specs.Call.{begin, fragment, accepted, run, finish, settle, returned}
 use Rattle.fragment_assembler.specs.Clean.{clean}
 use Rattle.assembly_record.specs.Stale.{staleNumbers}
@@ -26,10 +27,6 @@ use Rattle.no_starvation.specs.Starve as starve
 
 abbrev block : List ℕ
 block = 1 ∷ (2 ∷ [])
-
--- a fresh assembler, and an area of old bytes
-abbrev begins : Bool → Moment
-begins reliable = moment (empty 1 reliable 2) (replicate 258 9)
 
 -- the first of the two fragments of block n
 abbrev one : ℕ → Call
@@ -56,11 +53,11 @@ filled (suc k) = 1 ∷ (0 ∷ filled k)
 abbrev full : Bool → ℕ → Moment
 full reliable n = moment (withPlaces (empty 1 reliable 2) (taken n 128)) (filled 128)
 
-higher-full : crowd 201 128 (begins false) ≡ full false 201
+higher-full : crowd 201 128 (begins 1 false 2) ≡ full false 201
 unfolding fragment accepted begin run finish settle rows has fragments marked mark
 higher-full = refl
 
-lower-full : crowd 1 128 (begins true) ≡ full true 1
+lower-full : crowd 1 128 (begins 1 true 2) ≡ full true 1
 unfolding fragment accepted begin run finish settle rows has fragments marked mark
 lower-full = refl
 
@@ -68,7 +65,7 @@ crowd-ok : (n k : ℕ) (m : Moment) → Ok (m .state) → Ok (crowd n k m .state
 crowd-ok n zero m g = g
 crowd-ok n (suc k) m g = crowd-ok (suc n) k (after m (arrives (one n))) (fragment-ok (m .state) (m .area) (one n) g)
 
-begins-ok : (reliable : Bool) → Ok (begins reliable .state)
+begins-ok : (reliable : Bool) → Ok (begins 1 reliable 2 .state)
 begins-ok reliable = empty-ok 1 reliable 2 (omega arith) (omega arith) (omega arith) (omega arith)
 
 -- ---- what is supposed of a fragment of the block, and the two ends that the theorem excludes
@@ -105,12 +102,12 @@ pub record Drops (reliable : Bool) (few : ℕ) (m : Moment) : Type 0 where
   starved : Starved (after m (arrives (one 200)))
 
 -- "In reliable mode": in best effort, with 201 to 328 in assembly, block 200 goes as the lowest, though no lower number is in assembly
-pub reliable-needed : Drops false 0 (crowd 201 128 (begins false))
+pub reliable-needed : Drops false 0 (crowd 201 128 (begins 1 false 2))
 unfolding fragment accepted begin run finish settle rows has fragments marked mark
 reliable-needed =
     subst (Drops false 0) (sym higher-full)
     (record {
-      rules = subst (λ (m : Moment). Ok (m .state)) higher-full (crowd-ok 201 128 (begins false) (begins-ok false));
+      rules = subst (λ (m : Moment). Ok (m .state)) higher-full (crowd-ok 201 128 (begins 1 false 2) (begins-ok false));
       mode = refl;
       absent = refl;
       comes = record { number = refl; ok = refl; cut = record { total = refl; begins = refl } };
@@ -120,12 +117,12 @@ reliable-needed =
     })
 
 -- "128 lower numbers are never in assembly at once": with 1 to 128 in assembly block 200 goes as the highest
-pub bound-needed : Drops true 128 (crowd 1 128 (begins true))
+pub bound-needed : Drops true 128 (crowd 1 128 (begins 1 true 2))
 unfolding fragment accepted begin run finish settle rows has fragments marked mark
 bound-needed =
     subst (Drops true 128) (sym lower-full)
     (record {
-      rules = subst (λ (m : Moment). Ok (m .state)) lower-full (crowd-ok 1 128 (begins true) (begins-ok true));
+      rules = subst (λ (m : Moment). Ok (m .state)) lower-full (crowd-ok 1 128 (begins 1 true 2) (begins-ok true));
       mode = refl;
       absent = refl;
       comes = record { number = refl; ok = refl; cut = record { total = refl; begins = refl } };
@@ -136,13 +133,13 @@ bound-needed =
 
 -- ---- the cutoff, the area and the rule of cutting
 
-fresh : Chain 200 block (begins true) [] 0
+fresh : Chain 200 block (begins 1 true 2) [] 0
 unfolding has
 fresh = starve.Chain.start (begins-ok true) refl refl
 
 -- after the first fragment
 abbrev opened : Moment
-opened = after (begins true) (arrives (one 200))
+opened = after (begins 1 true 2) (arrives (one 200))
 
 chain : Chain 200 block opened (runOf (one 200) ∷ []) 10
 unfolding fragment accepted begin run finish settle rows has fragments marked mark
@@ -170,9 +167,9 @@ area-needed = (chain, record { comes = record { number = refl; ok = refl; cut = 
 abbrev short : Call
 short = callOf 10 200 1 2 1 1 []
 
-pub cut-needed : Chain 200 block (begins true) [] 0 × (short .number ≡ 200) × Accepted (begins true) short
-    × (returns 200 (said (begins true) (arrives short)) ≡ false) × Bounded 200 (after (begins true) (arrives short))
-    × Spoilt (after (begins true) (arrives short)) (0 ∷ (2 ∷ []))
+pub cut-needed : Chain 200 block (begins 1 true 2) [] 0 × (short .number ≡ 200) × Accepted (begins 1 true 2) short
+    × (returns 200 (said (begins 1 true 2) (arrives short)) ≡ false) × Bounded 200 (after (begins 1 true 2) (arrives short))
+    × Spoilt (after (begins 1 true 2) (arrives short)) (0 ∷ (2 ∷ []))
 unfolding fragment accepted begin run finish settle rows has fragments marked mark shown
 cut-needed = (
   fresh,

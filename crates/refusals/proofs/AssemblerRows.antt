@@ -30,6 +30,7 @@ use Rattle.fragment_assembler.specs.declared.Answer.{Answer}
 use Rattle.fragment_assembler.specs.declared.Cleaned.{Cleaned}
 use Rattle.fragment_assembler.specs.declared.Listing.{Listing}
 use Rattle.fragment_assembler.proofs.RefusalLaws.{number-row}
+use Rattle.assembly_record.proofs.TableLaws.{at-free}
 use Rattle.assembly_record.proofs.WordsLaws.{length-table}
 use Rattle.fragment_assembler.proofs.Determined.{same-words}
 use Rattle.refusals.specs.RefusalTable.{row, Verdict, refused, Exactly, Refuses, verdict, numbered, shorter, setUpRows, sampleSize, fragmentRows}
@@ -44,7 +45,7 @@ numbered-some (suc n) f = refl
 
 -- of a number that a call takes the query looks at the table
 asked : (ps : List Place) (n : ℤ) → isNumber n ≡ true → has ps (numberOf n) ≡ inAssembly ps (numberOf n)
-asked ps (negsuc n) e = let z : _≡_ {A = ℕ} 0 1 = cc in absurd (omega arith)
+asked ps (negsuc n) e = absurd (clash false e refl)
 asked ps (pos n) e =
     let h : ltb 0 n ≡ true = both (ltb 0 n) (ltb n top) e .0 in
     let k : 0 < n = ltb-true 0 n h in
@@ -132,11 +133,6 @@ fragment-rows w w′ area area′ time number size D k n payload r g fits h =
     }
 
 -- ---- set-up
-
-at-free : (n i : ℕ) → at (replicate n free) i ≡ free
-at-free zero i = refl
-at-free (suc n) zero = refl
-at-free (suc n) (suc i) = at-free n i
 
 fresh-long : (f : ℕ) (reliable : Bool) (p : ℕ) → length (recordOf (empty f reliable p)) ≡ 906
 unfolding recordOf
