@@ -8,7 +8,7 @@ ghost use Rattle.assembly_record.specs.Marks.{marked, markRun, gaps};
 ghost use Rattle.assembly_record.specs.Rows.{FirstGap};
 
 // The n marks from k, counted from 0, are set.
-pub fn mark_run(m: &mut [u64], k: usize, n: usize)
+pub(crate) fn mark_run(m: &mut [u64], k: usize, n: usize)
     requires { ⌜ (k + n ≤ 256) × (length (now m) ≡ 4) ⌝ }
     ensures { λ _. ⌜ now (m .exit) ≡ markRun (now (m .entry)) k n ⌝ }
 {
@@ -34,7 +34,7 @@ fn is_marked(m: &[u64], j: usize) -> bool
 }
 
 // How many marks are set before the first that is not.
-pub fn first_gap(m: &[u64]) -> usize
+pub(crate) fn first_gap(m: &[u64]) -> usize
     requires { ⌜ length (now m) ≡ 4 ⌝ }
     ensures { λ r. ⌜ FirstGap (now (m .entry)) r ⌝ }
 {

@@ -18,7 +18,7 @@ use proxy_record::column;
 use proxy_record::rows;
 
 // The last received number follows a greater one.
-pub fn note(t: &mut [u64], n: u64, time: u64)
+pub(crate) fn note(t: &mut [u64], n: u64, time: u64)
     requires { ⌜ Good (now t) ⌝ }
     ensures { λ r. ⌜ now (t .exit) ≡ recordOf (noted n time (stateOf (now (t .entry)))) ⌝ }
 {
@@ -29,7 +29,7 @@ pub fn note(t: &mut [u64], n: u64, time: u64)
 }
 
 // The base becomes b and moves on to the first untracked number, and tracked numbers below it go: at once, so that the table moves once.
-pub fn advance_ack_base(t: &mut [u64], b: u64)
+pub(crate) fn advance_ack_base(t: &mut [u64], b: u64)
     requires { ⌜ Good (now t) × (stateOf (now t) .base ≤ b) × (b ≤ top) ⌝ }
     ensures { λ r. ⌜ now (t .exit) ≡ recordOf (discard (moveOn (rebased b (changed (from b (tracked (now (t .entry)))) (stateOf (now (t .entry))))))) ⌝ }
 {
@@ -41,7 +41,7 @@ pub fn advance_ack_base(t: &mut [u64], b: u64)
 }
 
 // Above 256 tracked, the lowest goes and the base becomes at least one more.
-pub fn enforce_change_map_cap(t: &mut [u64]) -> Report
+pub(crate) fn enforce_change_map_cap(t: &mut [u64]) -> Report
     requires { ⌜ GoodUpTo 257 (now t) ⌝ }
     ensures { λ r. ⌜ Answered r (now (t .exit)) (ended (stateOf (now (t .entry)))) ⌝ }
 {
