@@ -1,8 +1,8 @@
 /*
- * A receiver core for RTPS that cannot lie about what it received: the calls of the static library that
- * `rt staticlib receiver` leaves in target/staticlib/libreceiver.a, for x86-64.
+ * A receiver core for RTPS: what came, what is missing, what may be acknowledged. The calls of the static library that
+ * `rt staticlib drucenal` leaves in target/staticlib/libdrucenal.a, for x86-64.
  *
- *     cc program.c -Iinclude -Ltarget/staticlib -lreceiver
+ *     cc program.c -Iinclude -Ltarget/staticlib -ldrucenal
  *
  * A call that can be refused answers 0, or the number of its refusal (below), and a refused call writes nothing: record,
  * area, lists and the numbers behind pointers keep their values. An accepted call writes all its numbers, and of a lent
@@ -106,8 +106,9 @@ uint32_t drucenal_measure_fragment_number_set(uint32_t count, size_t *length);
 
 /*
  * The writer proxy: what came from one writer, what is missing, what may be acknowledged. A time is any 64 bits of the
- * caller's. A call that changes the record reports a forced step (257 numbers would have been tracked, the lowest were
- * given up) by the base before and after; both are 0 where there was none.
+ * caller's. A call that changes the record reports a forced step by the base before and after; both are 0 where there
+ * was none. In a forced step more than 256 numbers would have been tracked and the lowest are given up: what did not come below
+ * the new base will be acknowledged, and is no longer missing.
  */
 
 /* A fresh record in the first DRUCENAL_PROXY_WORDS of these words: the ack base is 1. Refusal 3. */
@@ -129,10 +130,11 @@ uint32_t drucenal_proxy_irrelevant_changes_range(uint64_t *words, size_t length,
 uint32_t drucenal_proxy_irrelevant_changes_up_to(uint64_t *words, size_t length, int64_t smallest, uint64_t *old_base,
                                                  uint64_t *new_base);
 
-/* The ack base: everything below it can be acknowledged. */
+/* The ack base: everything below it may be acknowledged. Each number there came, is not available, or was given up by a
+ * forced step, which the call that made it reported. */
 uint64_t drucenal_proxy_all_ackable_before(const uint64_t *words, size_t length);
 
-/* Whether the number is below the ack base or tracked. */
+/* Whether the number is below the ack base or tracked: it came, is not available, or was given up. */
 bool drucenal_proxy_should_ignore_change(const uint64_t *words, size_t length, int64_t number);
 
 /* 0 untracked, 1 not available, 2 received: only then is its time written. */
@@ -170,10 +172,11 @@ uint32_t drucenal_assembler_new_datafrag(uint64_t *words, size_t length, uint8_t
                                          size_t payload_length, uint32_t *what, uint64_t *of, size_t *place,
                                          uint32_t *sample_length);
 
-/* How many bytes of the area are shown for a place and a length, from place * place_size on: the length, or 0 where the
- * part would pass the area's end. A returned sample stays there until the area is next lent for writing. */
+/* How many bytes of the area are shown for a place and a length: the length, or 0 where the part would pass the area's
+ * end. start: where they begin in the area, place * place_size, or 0 where the part would pass the area's end; it is always written. A
+ * returned sample stays there until the area is next lent for writing. */
 size_t drucenal_assembler_view(const uint64_t *words, size_t length, const uint8_t *area, size_t area_length,
-                               size_t place, size_t sample_length);
+                               size_t place, size_t sample_length, size_t *start);
 
 /* Drops every sample whose last fragment came before this time, and lists their numbers, rising; listed: how many, at
  * most 128. Refusal 3. */

@@ -1,4 +1,4 @@
-"""The tables of docs/SWEEP.md."""
+"""The tables of docs/SWEEP.md, and whether wrong-ports.md names edits that are there."""
 import os
 import re
 
@@ -43,7 +43,7 @@ def count_table(groups):
 
 
 def unknown_edits(text):
-    """The names of the tables of wrong ports that are no edit: in `code` a must-fail edit, else one of sweep/ports."""
+    """The names of the table of wrong ports that are no edit: in `code` a must-fail edit, else one of sweep/ports."""
     there = {True: set(), False: set()}
     for top, folder in ((os.path.join(ROOT, "crates"), "must-fail"), (os.path.join(HERE, "ports"), "")):
         for crate in os.listdir(top):
@@ -51,7 +51,7 @@ def unknown_edits(text):
             if os.path.isdir(at):
                 there[folder == "must-fail"] |= {e[:-5] for e in os.listdir(at) if e.endswith(".edit")}
     out = []
-    for line in text[text.index("## Wrong ports") :].splitlines():
+    for line in text.splitlines():
         if line.startswith("| `"):
             for cell in line.split("|")[2:-1]:
                 for name in (n.strip() for n in cell.split(",")):
@@ -94,11 +94,10 @@ def report():
     equal = ["| function | place | change | why no answer differs |", "|---|---|---|---|"]
     for crate, r, w in accepted:
         equal.append("| `%s::%s` | %s | `%s` to `%s` | %s |" % (crate, r["function"], r["place"], r["old"].replace("|", "\\|"), r["new"].replace("|", "\\|"), w or "**not explained**"))
-    ports = ["| crate | edit | what it is | refused, as |", "|---|---|---|---|"]
     rows = read_ports()
-    for k in sorted(rows):
-        label, _, verdict, words, _ = rows[k]
-        ports.append("| %s | %s | %s | %s |" % (*k, words, verdict.replace("refused: ", "")))
+    refused = sum(1 for r in rows.values() if r[2].startswith("refused"))
+    facts = sum(1 for r in rows.values() if r[2] == "refused: a fact fails")
+    ports = ["%d wrong ports tried, %d refused, %d of them because a fact fails." % (len(rows), refused, facts)]
     tables = {"left": left_over(), "crates": count_table(by_crate), "kinds": count_table({k: by_kind[k] for k in KINDS if k in by_kind}), "accepted": equal, "ports": ports}
     path = os.path.join(ROOT, "docs", "SWEEP.md")
     with open(path, encoding="utf-8") as h:
@@ -109,9 +108,10 @@ def report():
         h.write(text)
     for line in tables["crates"] + tables["left"]:
         print(line)
-    lost = unknown_edits(text)
+    with open(os.path.join(HERE, "results", "wrong-ports.md"), encoding="utf-8") as h:
+        lost = unknown_edits(h.read())
     for line in untold:
         print("not explained: " + line)
     for name in lost:
-        print("docs/SWEEP.md names no edit: " + name)
+        print("wrong-ports.md names no edit: " + name)
     return 1 if untold or lost else 0

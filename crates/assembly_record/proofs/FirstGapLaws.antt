@@ -11,14 +11,15 @@ use lib.ListN.{getD, take, drop}
 use lib.Count.{trailingZeros}
 use lib.Dec.{leb, eqb}
 use borrow.Author.Tests.{eq-eqb, ne-eqb, le-leb, lt-leb}
-use Rattle.sequence_number.proofs.Split.{split-lt}
-use Rattle.number_set.proofs.WidthLaws.{complement-bit, trailing-below, trailing-at}
+use Rattle.assembly_record.specs.Sizes.{mostFragments, rowSize}
+use Rattle.outcome.proofs.Split.{split-lt}
+use Rattle.bitmap.proofs.WidthLaws.{complement-bit, trailing-below, trailing-at}
 use Rattle.assembly_record.proofs.FragmentsLaws.{fragments-le, fragments-above}
 use Rattle.assembly_record.proofs.MarksLaws.{all-holds, all-lacks}
 use Rattle.assembly_record.proofs.WordsLaws.{marks-at, size-at}
 use Rattle.assembly_record.specs.Fragments.{fragments, isWhole}
-use Rattle.assembly_record.specs.Marks.{marked, all}
-use Rattle.assembly_record.specs.State.{at}
+use Rattle.assembly_record.specs.Marks.{marked, allBelow}
+use Rattle.assembly_record.specs.State.{placeAt}
 use Rattle.assembly_record.specs.Words.{placesOf}
 use Rattle.assembly_record.specs.Rows.{FirstGap, Counts}
 
@@ -63,7 +64,7 @@ pub gap-none : (m : List ℕ) (i : ℕ) → i ≡ 4 → ((j : ℕ) → j < 64 * 
 gap-none m i e h = record { most = omega arith; before = h; gap = λ l. absurd (omega arith) }
 
 -- as many as r cover the sample, or the one at r lacks
-pub whole-reached : (m : List ℕ) (d f r : ℕ) → 0 < f → fragments d f ≤ 256 → FirstGap m r → leb d (r * f) ≡ all (marked m) (fragments d f)
+pub whole-reached : (m : List ℕ) (d f r : ℕ) → 0 < f → fragments d f ≤ mostFragments → FirstGap m r → leb d (r * f) ≡ allBelow (marked m) (fragments d f)
 whole-reached m d f r p few g =
     ⊎-elim
     (λ l.
@@ -75,10 +76,10 @@ whole-reached m d f r p few g =
     (split-lt (r * f) d)
 
 -- the same of a place, as the code reads it
-pub whole-counted : (w : List ℕ) (i r : ℕ) → Counts w i → FirstGap (take ((3 + 7 * i + 3 + 4) - (3 + 7 * i + 3)) (drop (3 + 7 * i + 3) w)) r
-    → leb (getD w (3 + 7 * i + 1) 0) (r * getD w 0 0) ≡ isWhole (getD w 0 0) (at (placesOf w) i)
+pub whole-counted : (w : List ℕ) (i r : ℕ) → Counts w i → FirstGap (take ((3 + rowSize * i + 3 + 4) - (3 + rowSize * i + 3)) (drop (3 + rowSize * i + 3) w)) r
+    → leb (getD w (3 + rowSize * i + 1) 0) (r * getD w 0 0) ≡ isWhole (getD w 0 0) (placeAt (placesOf w) i)
 whole-counted w i r c g =
     let e = size-at w i (c .within) in
     let m = marks-at w i (c .within) in
     ap (λ (d : ℕ). leb d (r * getD w 0 0)) e
-    ∙ whole-reached (at (placesOf w) i .marks) (at (placesOf w) i .size) (getD w 0 0) r (c .some) (c .few) (subst (λ (l : List ℕ). FirstGap l r) m g)
+    ∙ whole-reached (placeAt (placesOf w) i .marks) (placeAt (placesOf w) i .size) (getD w 0 0) r (c .some) (c .few) (subst (λ (l : List ℕ). FirstGap l r) m g)

@@ -10,8 +10,8 @@ use lib.ListN.{length, getD, set, drop, length-append, List·getD-append}
 use lib.Seq.{getD-append-seam}
 use lib.Dec.{leb}
 use borrow.Author.Tests.{leb-true, leb-false}
-use Rattle.sequence_number.proofs.RunLaws.{over-more}
-use Rattle.sequence_number.proofs.Split.{split, split-lt}
+use Rattle.outcome.proofs.LentLaws.{over-more}
+use Rattle.outcome.proofs.Split.{split, split-lt}
 use Rattle.assembly_record.specs.Marks.{marked, gaps}
 
 pub gaps-marked : (m : List ℕ) (n : ℕ) → marked m n ≡ true → gaps m (suc n) ≡ gaps m n

@@ -9,4 +9,5 @@ pub mod FragmentsLaws
 pub mod FirstGapLaws
 pub mod RulesLaws
 pub mod StaleLaws
+pub mod StaleSteps
 pub mod SweepLaws

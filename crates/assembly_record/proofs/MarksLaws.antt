@@ -11,19 +11,20 @@ use lib.ListN.{length, getD, set, replicate, length-set, getD-replicate, List·g
 use lib.Dec.{ltb, leb, eqb}
 use lib.Bits.{bitOr}
 use borrow.Author.Tests.{ltb-true, ltb-false, leb-true, leb-false, eqb-true, eqb-false, lt-ltb, le-ltb, ne-eqb}
-use Rattle.sequence_number.proofs.Split.{split, both}
-use Rattle.number_set.proofs.WidthLaws.{one-within, or-sets, set-has}
-use Rattle.assembly_record.specs.Marks.{mark, markRun, marked, covers, all}
+use Rattle.assembly_record.specs.Sizes.{mostFragments, markWords}
+use Rattle.outcome.proofs.Split.{split, both}
+use Rattle.bitmap.proofs.WidthLaws.{one-within, or-sets, set-has}
+use Rattle.assembly_record.specs.Marks.{withMark, markRun, marked, covers, allBelow}
 
 pub length-run : (m : List ℕ) (k n : ℕ) → length (markRun m k n) ≡ length m
-unfolding mark
+unfolding withMark
 length-run m k zero = refl
 length-run m k (suc n) = simp length-set (length-run m k n)
 
 -- a mark as the code sets it
 pub mark-or : (m : List ℕ) (j : ℕ)
-    → set m (j / 64) (bitOr (getD m (j / 64) 0) ((1 * 2 ^ (j % 64)) % 18446744073709551616)) ≡ mark m j
-unfolding mark
+    → set m (j / 64) (bitOr (getD m (j / 64) 0) ((1 * 2 ^ (j % 64)) % 18446744073709551616)) ≡ withMark m j
+unfolding withMark
 mark-or m j =
     let e : (1 * 2 ^ (j % 64)) % 18446744073709551616 ≡ 2 ^ (j % 64) = one-within (j % 64) 64 (mod-lt j (omega arith)) in
     ap (λ (x : ℕ). set m (j / 64) (bitOr (getD m (j / 64) 0) x)) e ∙ ap (set m (j / 64)) (or-sets (getD m (j / 64) 0) (j % 64))
@@ -31,18 +32,18 @@ mark-or m j =
 -- a mark more of a run
 pub run-more : (m₀ m : List ℕ) (k i : ℕ) → m ≡ markRun m₀ k i
     → set m ((k + i) / 64) (bitOr (getD m ((k + i) / 64) 0) ((1 * 2 ^ ((k + i) % 64)) % 18446744073709551616)) ≡ markRun m₀ k (i + 1)
-run-more m₀ m k i e = mark-or m (k + i) ∙ ap (λ (l : List ℕ). mark l (k + i)) e ∙ ap (markRun m₀ k) (sym (add-one i))
+run-more m₀ m k i e = mark-or m (k + i) ∙ ap (λ (l : List ℕ). withMark l (k + i)) e ∙ ap (markRun m₀ k) (sym (add-one i))
 
 -- after a mark is set the marks are those before, and it
-pub marked-mark : (m : List ℕ) (i j : ℕ) → length m ≡ 4 → i < 256 → marked (mark m i) j ≡ marked m j || eqb i j
-unfolding mark marked
+pub marked-mark : (m : List ℕ) (i j : ℕ) → length m ≡ markWords → i < mostFragments → marked (withMark m i) j ≡ marked m j || eqb i j
+unfolding withMark marked
 marked-mark m i j l h = set-has 64 (λ (n : ℕ). n % 64) (λ x y e f. omega arith) m i j (omega arith)
 
-pub marked-none : (j : ℕ) → marked (replicate 4 0) j ≡ false
+pub marked-none : (j : ℕ) → marked (replicate markWords 0) j ≡ false
 unfolding marked
 marked-none j =
-    let z : _≡_ {A = ℕ} (getD (replicate 4 0) (j / 64) 0) 0 =
-    split (ltb (j / 64) 4) (λ t. getD-replicate 4 (j / 64) 0 0 (ltb-true _ _ t)) (λ t. List·getD-eq-default {A = ℕ} (replicate 4 0) 0 (ltb-false (j / 64) 4 t)) in
+    let z : _≡_ {A = ℕ} (getD (replicate markWords 0) (j / 64) 0) 0 =
+    split (ltb (j / 64) 4) (λ t. getD-replicate 4 (j / 64) 0 0 (ltb-true _ _ t)) (λ t. List·getD-eq-default {A = ℕ} (replicate markWords 0) 0 (ltb-false (j / 64) 4 t)) in
     rw (z, zero-div (2 ^ (j % 64)))
 
 covers-suc : (k n j : ℕ) → covers k (suc n) j ≡ covers k n j || eqb (k + n) j
@@ -66,7 +67,7 @@ covers-zero k j =
 pub covers-past : (k n j : ℕ) → k + n ≤ j → covers k n j ≡ false
 covers-past k n j h = split (leb k j) (λ t. rw (t, le-ltb j (k + n) h)) (λ t. rw t)
 
-pub marked-run : (m : List ℕ) (k n j : ℕ) → length m ≡ 4 → k + n ≤ 256 → marked (markRun m k n) j ≡ marked m j || covers k n j
+pub marked-run : (m : List ℕ) (k n j : ℕ) → length m ≡ markWords → k + n ≤ mostFragments → marked (markRun m k n) j ≡ marked m j || covers k n j
 marked-run m k zero j l h = sym (or-false (marked m j)) ∙ ap (λ (b : Bool). marked m j || b) (sym (covers-zero k j))
 marked-run m k (suc n) j l h =
     marked-mark (markRun m k n) (k + n) j (length-run m k n ∙ l) (omega arith)
@@ -74,21 +75,21 @@ marked-run m k (suc n) j l h =
     ∙ or-assoc (marked m j) (covers k n j) (eqb (k + n) j)
     ∙ ap (λ (b : Bool). marked m j || b) (sym (covers-suc k n j))
 
-pub all-ext : (f g : ℕ → Bool) (n : ℕ) → ((j : ℕ) → j < n → f j ≡ g j) → all f n ≡ all g n
+pub all-ext : (f g : ℕ → Bool) (n : ℕ) → ((j : ℕ) → j < n → f j ≡ g j) → allBelow f n ≡ allBelow g n
 all-ext f g zero h = refl
 all-ext f g (suc n) h =
     let a = all-ext f g n (λ j l. h j (omega arith)) in
     let b = h n (omega arith) in cc
 
-pub all-at : (f : ℕ → Bool) (n j : ℕ) → all f n ≡ true → j < n → f j ≡ true
+pub all-at : (f : ℕ → Bool) (n j : ℕ) → allBelow f n ≡ true → j < n → f j ≡ true
 all-at f zero j e l = absurd (not-suc-le-zero l)
 all-at f (suc n) j e l =
-    ⊎-elim (λ q. subst (λ (k : ℕ). f k ≡ true) (sym q) (both (all f n) (f n) e .1))
-    (λ k. all-at f n j (both (all f n) (f n) e .0) k) (eq-or-lt-of-le (le-of-suc-le-suc l))
+    ⊎-elim (λ q. subst (λ (k : ℕ). f k ≡ true) (sym q) (both (allBelow f n) (f n) e .1))
+    (λ k. all-at f n j (both (allBelow f n) (f n) e .0) k) (eq-or-lt-of-le (le-of-suc-le-suc l))
 
-pub all-lacks : (f : ℕ → Bool) (n j : ℕ) → j < n → f j ≡ false → all f n ≡ false
-all-lacks f n j l e = split (all f n) (λ t. t ∙ sym (all-at f n j t l) ∙ e) (λ t. t)
+pub all-lacks : (f : ℕ → Bool) (n j : ℕ) → j < n → f j ≡ false → allBelow f n ≡ false
+all-lacks f n j l e = split (allBelow f n) (λ t. t ∙ sym (all-at f n j t l) ∙ e) (λ t. t)
 
-pub all-holds : (f : ℕ → Bool) (n : ℕ) → ((j : ℕ) → j < n → f j ≡ true) → all f n ≡ true
+pub all-holds : (f : ℕ → Bool) (n : ℕ) → ((j : ℕ) → j < n → f j ≡ true) → allBelow f n ≡ true
 all-holds f zero h = refl
 all-holds f (suc n) h = rw (all-holds f n (λ j l. h j (omega arith)), h n (omega arith))

@@ -5,7 +5,7 @@ use mathlib.Core.List.{List}
 use lib.ListN.{length}
 use lib.Dec.{eqb}
 use Rattle.assembly_record.specs.State.{Place}
-use Rattle.assembly_record.specs.Marks.{marked, all}
+use Rattle.assembly_record.specs.Marks.{marked, allBelow}
 
 -- "A sample of D bytes has F = ceil(D / f) fragments"
 unfoldable pub fragments : ℕ → ℕ → ℕ
@@ -28,4 +28,4 @@ brings d f k n payload = min (n * f) (min (length payload) (d - firstByte k f))
 
 -- whether all fragments of a place are marked
 abbrev pub isWhole : ℕ → Place → Bool
-isWhole f p = all (marked (p .marks)) (fragments (p .size) f)
+isWhole f p = allBelow (marked (p .marks)) (fragments (p .size) f)

@@ -1,3 +1,4 @@
+pub mod Sizes
 pub mod State
 pub mod Table
 pub mod Marks

@@ -4,29 +4,29 @@ use mathlib.Core.Bool.{Bool, true, cond, _&&_}
 use mathlib.Core.List.{List, [], _∷_, _++_}
 use lib.ListN.{getD, set}
 use lib.Dec.{ltb, leb, eqb}
-use Rattle.number_set.specs.Bitmap.{withBit}
+use Rattle.bitmap.specs.Bitmap.{withBit}
 
 -- whether bit j is set
 unfoldable pub marked : List ℕ → ℕ → Bool
 marked m j = eqb (getD m (j / 64) 0 / 2 ^ (j % 64) % 2) 1
 
 -- bit j set
-unfoldable pub mark : List ℕ → ℕ → List ℕ
-mark m j = set m (j / 64) (withBit (getD m (j / 64) 0) (j % 64))
+unfoldable pub withMark : List ℕ → ℕ → List ℕ
+withMark m j = set m (j / 64) (withBit (getD m (j / 64) 0) (j % 64))
 
 -- bits k to k + n - 1 set
 abbrev pub markRun : List ℕ → ℕ → ℕ → List ℕ
 markRun m k zero = m
-markRun m k (suc n) = mark (markRun m k n) (k + n)
+markRun m k (suc n) = withMark (markRun m k n) (k + n)
 
 -- whether j is one of k to k + n - 1
 abbrev pub covers : ℕ → ℕ → ℕ → Bool
 covers k n j = leb k j && ltb j (k + n)
 
 -- whether a test holds of every number below n
-abbrev pub all : (ℕ → Bool) → ℕ → Bool
-all test zero = true
-all test (suc n) = all test n && test n
+abbrev pub allBelow : (ℕ → Bool) → ℕ → Bool
+allBelow test zero = true
+allBelow test (suc n) = allBelow test n && test n
 
 -- the fragments from 1 to n that are not marked, rising
 abbrev pub gaps : List ℕ → ℕ → List ℕ

@@ -2,7 +2,9 @@
 use Prim.Native.Nat.{ℕ}
 use mathlib.Core.Bool.{Bool}
 use mathlib.Core.List.{List}
+use mathlib.Core.Path.{_≡_}
 use lib.ListN.{getD, replicate}
+use Rattle.assembly_record.specs.Sizes.{markWords}
 
 -- A place of the table: the number of the sample that it holds (0 where it is free), the sample's size D, the time that its last accepted fragment
 -- stored, and its marks, four words of 64 bits.
@@ -20,13 +22,19 @@ pub record Assembler : Type 0 where
   pub places : List Place
 
 -- a free place is zero throughout
-abbrev pub free : Place
-free = record { number = 0; size = 0; time = 0; marks = replicate 4 0 }
+abbrev pub freePlace : Place
+freePlace = record { number = 0; size = 0; time = 0; marks = replicate markWords 0 }
 
 -- place i
-abbrev pub at : List Place → ℕ → Place
-at ps i = getD ps i free
+abbrev pub placeAt : List Place → ℕ → Place
+placeAt ps i = getD ps i freePlace
 
 -- the same assembler with other places
 abbrev pub withPlaces : Assembler → List Place → Assembler
 withPlaces a ps = record { fragmentSize = a .fragmentSize; placeSize = a .placeSize; reliable = a .reliable; places = ps }
+
+-- the second assembler has the fragment size, the place size and the mode of the first: "fixed", no call changes them
+pub record Fixed (a b : Assembler) : Type 0 where
+  pub fragmentSize : b .fragmentSize ≡ a .fragmentSize
+  pub placeSize : b .placeSize ≡ a .placeSize
+  pub reliable : b .reliable ≡ a .reliable

@@ -12,12 +12,12 @@ find n [] = 0
 find n (p ∷ ps) = cond (eqb (p .number) n) 0 (suc (find n ps))
 
 -- whether some place has the number n
-unfoldable pub has : List Place → ℕ → Bool
-has ps n = ltb (find n ps) (length ps)
+unfoldable pub hasNumber : List Place → ℕ → Bool
+hasNumber ps n = ltb (find n ps) (length ps)
 
--- "A query says whether a number is in assembly": of one number (`count` says of how many). 0 stands for a number that row 4 refuses: no sample has it
-abbrev pub inAssembly : List Place → ℕ → Bool
-inAssembly ps n = cond (eqb n 0) false (has ps n)
+-- "A query says whether a number is in assembly": of one number (`inAssembly` says of how many). 0 stands for a number that row 4 refuses: no sample has it
+abbrev pub isPartiallyReceived : List Place → ℕ → Bool
+isPartiallyReceived ps n = cond (eqb n 0) false (hasNumber ps n)
 
 -- at how many places a test holds
 abbrev pub howMany : (Place → Bool) → List Place → ℕ
@@ -28,8 +28,8 @@ abbrev pub isTaken : Place → Bool
 isTaken p = ltb 0 (p .number)
 
 -- how many numbers are in assembly: what the call `in_assembly` answers
-abbrev pub count : List Place → ℕ
-count ps = howMany isTaken ps
+abbrev pub inAssembly : List Place → ℕ
+inAssembly ps = howMany isTaken ps
 
 -- how many numbers below n are in assembly
 abbrev pub lower : ℕ → List Place → ℕ

@@ -5,6 +5,7 @@ use mathlib.Core.Bool.{Bool, cond}
 use mathlib.Core.List.{List, [], _∷_, _++_}
 use lib.ListN.{getD, take, drop}
 use lib.Dec.{eqb}
+use Rattle.assembly_record.specs.Sizes.{placeCount, rowSize}
 use Rattle.assembly_record.specs.State.{Place, Assembler}
 
 -- the words of a state
@@ -19,8 +20,8 @@ tableOf (p ∷ ps) = rowOf p ++ tableOf ps
 abbrev pub bit : Bool → ℕ
 bit b = cond b 1 0
 
-unfoldable pub recordOf : Assembler → List ℕ
-recordOf a = a .fragmentSize ∷ (a .placeSize ∷ (bit (a .reliable) ∷ tableOf (a .places)))
+unfoldable pub assemblerWords : Assembler → List ℕ
+assemblerWords a = a .fragmentSize ∷ (a .placeSize ∷ (bit (a .reliable) ∷ tableOf (a .places)))
 
 -- the state that words stand for
 
@@ -29,10 +30,10 @@ placeOf l = record { number = getD l 0 0; size = getD l 1 0; time = getD l 2 0; 
 
 abbrev pub rowsOf : ℕ → List ℕ → List Place
 rowsOf zero l = []
-rowsOf (suc n) l = placeOf (take 7 l) ∷ rowsOf n (drop 7 l)
+rowsOf (suc n) l = placeOf (take rowSize l) ∷ rowsOf n (drop rowSize l)
 
 unfoldable pub placesOf : List ℕ → List Place
-placesOf w = rowsOf 129 (drop 3 w)
+placesOf w = rowsOf placeCount (drop 3 w)
 
-abbrev pub stateOf : List ℕ → Assembler
-stateOf w = record { fragmentSize = getD w 0 0; placeSize = getD w 1 0; reliable = eqb (getD w 2 0) 1; places = placesOf w }
+abbrev pub assemblerOf : List ℕ → Assembler
+assemblerOf w = record { fragmentSize = getD w 0 0; placeSize = getD w 1 0; reliable = eqb (getD w 2 0) 1; places = placesOf w }

@@ -23,4 +23,4 @@ pub const PLACES: usize = 129; // one more than may stay in assembly
 
 pub const LAST: usize = 128; // the last place
 
-pub const RECORD: usize = 906; // all words
+pub const ASSEMBLER_WORDS: usize = 906; // all words

@@ -3,13 +3,14 @@ use crate::layout::MARK_WORDS;
 ghost use mathlib.Core.Path.{_≡_};
 ghost use Prim.Native.Nat.{_+_, _<_, _≤_};
 ghost use lib.ListN.{length};
-ghost use Rattle.sequence_number.specs.Lent.{over};
+ghost use Rattle.assembly_record.specs.Sizes.{mostFragments, markWords};
+ghost use Rattle.outcome.specs.Lent.{over};
 ghost use Rattle.assembly_record.specs.Marks.{marked, markRun, gaps};
 ghost use Rattle.assembly_record.specs.Rows.{FirstGap};
 
 // The n marks from k, counted from 0, are set.
 pub(crate) fn mark_run(m: &mut [u64], k: usize, n: usize)
-    requires { ⌜ (k + n ≤ 256) × (length (now m) ≡ 4) ⌝ }
+    requires { ⌜ (k + n ≤ mostFragments) × (length (now m) ≡ markWords) ⌝ }
     ensures { λ _. ⌜ now (m .exit) ≡ markRun (now (m .entry)) k n ⌝ }
 {
     let mut i = 0;
@@ -24,7 +25,7 @@ pub(crate) fn mark_run(m: &mut [u64], k: usize, n: usize)
 }
 
 fn is_marked(m: &[u64], j: usize) -> bool
-    requires { ⌜ (j < 256) × (length (now m) ≡ 4) ⌝ }
+    requires { ⌜ (j < mostFragments) × (length (now m) ≡ markWords) ⌝ }
     ensures { λ r. ⌜ r ≡ marked (now (m .entry)) j ⌝ }
 {
     let w = j / 64;
@@ -35,7 +36,7 @@ fn is_marked(m: &[u64], j: usize) -> bool
 
 // How many marks are set before the first that is not.
 pub(crate) fn first_gap(m: &[u64]) -> usize
-    requires { ⌜ length (now m) ≡ 4 ⌝ }
+    requires { ⌜ length (now m) ≡ markWords ⌝ }
     ensures { λ r. ⌜ FirstGap (now (m .entry)) r ⌝ }
 {
     let mut i = 0;
@@ -51,7 +52,7 @@ pub(crate) fn first_gap(m: &[u64]) -> usize
 
 // How many of the first n marks are not set.
 pub fn count_gaps(m: &[u64], n: usize) -> usize
-    requires { ⌜ (length (now m) ≡ 4) × (n ≤ 256) ⌝ }
+    requires { ⌜ (length (now m) ≡ markWords) × (n ≤ mostFragments) ⌝ }
     ensures { λ r. ⌜ r ≡ length (gaps (now (m .entry)) n) ⌝ }
 {
     let mut i = 0;
@@ -68,7 +69,7 @@ pub fn count_gaps(m: &[u64], n: usize) -> usize
 
 // The fragments that lack a mark among the first n, numbered from 1, in front of the lent list.
 pub fn list_gaps(m: &[u64], n: usize, out: &mut [u32])
-    requires { ⌜ (length (now m) ≡ 4) × ((n ≤ 256) × (length (gaps (now m) n) ≤ length (now out))) ⌝ }
+    requires { ⌜ (length (now m) ≡ markWords) × ((n ≤ mostFragments) × (length (gaps (now m) n) ≤ length (now out))) ⌝ }
     ensures { λ _. ⌜ now (out .exit) ≡ over (gaps (now (m .entry)) n) (now (out .entry)) ⌝ }
 {
     let mut i = 0;

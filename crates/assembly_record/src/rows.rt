@@ -12,10 +12,11 @@ use crate::marks::mark_run;
 ghost use mathlib.Core.Path.{_≡_};
 ghost use Prim.Native.Nat.{_+_, _<_, _≤_};
 ghost use lib.ListN.{length, getD, set, replicate};
-ghost use Rattle.assembly_record.specs.State.{free, at};
+ghost use Rattle.assembly_record.specs.Sizes.{placeCount, mostFragments, rowSize, assemblerSize};
+ghost use Rattle.assembly_record.specs.State.{freePlace, placeAt};
 ghost use Rattle.assembly_record.specs.Fragments.{isWhole};
 ghost use Rattle.assembly_record.specs.Words.{placeOf, placesOf};
-ghost use Rattle.assembly_record.specs.Rows.{Became, openedRow, ran, Counts};
+ghost use Rattle.assembly_record.specs.Rows.{Became, openedRow, placeRan, Counts};
 
 pub fn wipe(d: &mut [u64])
     ensures { λ _. ⌜ now (d .exit) ≡ replicate (length (now (d .entry))) 0 ⌝ }
@@ -28,7 +29,7 @@ pub fn wipe(d: &mut [u64])
 }
 
 fn open_row(row: &mut [u64], number: u64, size: u64)
-    requires { ⌜ length (now row) ≡ 7 ⌝ }
+    requires { ⌜ length (now row) ≡ rowSize ⌝ }
     ensures { λ _. ⌜ now (row .exit) ≡ openedRow number size ⌝ }
 {
     wipe(row);
@@ -37,8 +38,8 @@ fn open_row(row: &mut [u64], number: u64, size: u64)
 }
 
 fn run_row(row: &mut [u64], number: u64, time: u64, k: usize, n: usize)
-    requires { ⌜ (length (now row) ≡ 7) × (k + n ≤ 256) ⌝ }
-    ensures { λ _. ⌜ placeOf (now (row .exit)) ≡ ran (placeOf (now (row .entry))) number time k n ⌝ }
+    requires { ⌜ (length (now row) ≡ rowSize) × (k + n ≤ mostFragments) ⌝ }
+    ensures { λ _. ⌜ placeOf (now (row .exit)) ≡ placeRan (placeOf (now (row .entry))) number time k n ⌝ }
 {
     row[NUMBER] = number;
     row[TIME] = time;
@@ -47,7 +48,7 @@ fn run_row(row: &mut [u64], number: u64, time: u64, k: usize, n: usize)
 
 // Place `seat` holds a sample of which nothing has come yet.
 pub fn open_at(t: &mut [u64], seat: usize, number: u64, size: u64)
-    requires { ⌜ (length (now t) ≡ 906) × (seat < 129) ⌝ }
+    requires { ⌜ (length (now t) ≡ assemblerSize) × (seat < placeCount) ⌝ }
     ensures { λ _. ⌜ Became (now (t .entry)) (set (placesOf (now (t .entry))) seat (placeOf (openedRow number size))) (now (t .exit)) ⌝ }
 {
     let b = TABLE + ROW * seat;
@@ -57,8 +58,8 @@ pub fn open_at(t: &mut [u64], seat: usize, number: u64, size: u64)
 
 // Place `seat` takes the time and the marks of a run.
 pub fn run_at(t: &mut [u64], seat: usize, number: u64, time: u64, k: usize, n: usize)
-    requires { ⌜ (length (now t) ≡ 906) × ((seat < 129) × (k + n ≤ 256)) ⌝ }
-    ensures { λ _. ⌜ Became (now (t .entry)) (set (placesOf (now (t .entry))) seat (ran (at (placesOf (now (t .entry))) seat) number time k n)) (now (t .exit)) ⌝ }
+    requires { ⌜ (length (now t) ≡ assemblerSize) × ((seat < placeCount) × (k + n ≤ mostFragments)) ⌝ }
+    ensures { λ _. ⌜ Became (now (t .entry)) (set (placesOf (now (t .entry))) seat (placeRan (placeAt (placesOf (now (t .entry))) seat) number time k n)) (now (t .exit)) ⌝ }
 {
     let b = TABLE + ROW * seat;
     let e = b + ROW;
@@ -67,8 +68,8 @@ pub fn run_at(t: &mut [u64], seat: usize, number: u64, time: u64, k: usize, n: u
 
 // Place `seat` is freed.
 pub fn wipe_at(t: &mut [u64], seat: usize)
-    requires { ⌜ (length (now t) ≡ 906) × (seat < 129) ⌝ }
-    ensures { λ _. ⌜ Became (now (t .entry)) (set (placesOf (now (t .entry))) seat free) (now (t .exit)) ⌝ }
+    requires { ⌜ (length (now t) ≡ assemblerSize) × (seat < placeCount) ⌝ }
+    ensures { λ _. ⌜ Became (now (t .entry)) (set (placesOf (now (t .entry))) seat freePlace) (now (t .exit)) ⌝ }
 {
     let b = TABLE + ROW * seat;
     let e = b + ROW;
@@ -78,7 +79,7 @@ pub fn wipe_at(t: &mut [u64], seat: usize)
 // Whether all fragments of place `seat` have come: those before the first gap reach the sample's end.
 pub fn whole_at(t: &[u64], seat: usize) -> bool
     requires { ⌜ Counts (now t) seat ⌝ }
-    ensures { λ r. ⌜ r ≡ isWhole (getD (now (t .entry)) 0 0) (at (placesOf (now (t .entry))) seat) ⌝ }
+    ensures { λ r. ⌜ r ≡ isWhole (getD (now (t .entry)) 0 0) (placeAt (placesOf (now (t .entry))) seat) ⌝ }
 {
     let b = TABLE + ROW * seat + MARKS;
     let e = b + MARK_WORDS;

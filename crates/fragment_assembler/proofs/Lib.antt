@@ -1,6 +1,9 @@
 pub mod RefusalLaws
 pub mod CallLaws
-pub mod InnerLaws
+pub mod CallRules
+pub mod EndsLaws
+pub mod WorkedLaws
+pub mod DoesLaws
 pub mod SetUpLaws
 pub mod ViewLaws
 pub mod CleanLaws

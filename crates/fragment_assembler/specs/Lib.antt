@@ -1,3 +1,4 @@
+pub mod Fragment
 pub mod Refusal
 pub mod Call
 pub mod SetUp

@@ -6,15 +6,14 @@ use assembly_record::layout::ROW;
 use assembly_record::layout::SIZE;
 use assembly_record::layout::TABLE;
 ghost use mathlib.Core.Path.{_≡_};
-ghost use mathlib.Core.List.{[]};
 ghost use Prim.Native.Nat.{_<_};
-ghost use lib.ListN.{length};
 ghost use Rattle.sequence_number.specs.Number.{top};
 ghost use Rattle.assembly_record.specs.Table.{find};
 ghost use Rattle.assembly_record.specs.Fragments.{fragments};
-ghost use Rattle.fragment_assembler.specs.Refusal.{refusal, runRefusal, callOf};
-ghost use Rattle.assembly_record.specs.Words.{placesOf, stateOf};
-ghost use Rattle.assembly_record.specs.Rules.{Good};
+ghost use Rattle.fragment_assembler.specs.Refusal.{fragmentRefusal, runRefusal};
+ghost use Rattle.fragment_assembler.specs.Fragment.{headWith};
+ghost use Rattle.assembly_record.specs.Words.{placesOf, assemblerOf};
+ghost use Rattle.assembly_record.specs.Rules.{GoodAssembler};
 
 // The most fragments of a sample.
 const MOST_FRAGMENTS: u64 = 256;
@@ -37,19 +36,20 @@ fn refuse_run(d: u64, f: u64, start: u32, count: u16) -> u8
     0
 }
 
-// The refusal of a call whose number stands at `at`, 0 where it is accepted; `long` is the area's length.
+// The refusal of a call whose number stands at `at`, 0 where it is accepted; `long` is the area's length. No row asks for the payload's.
 pub(crate) fn refuse(
     t: &[u64],
     at: usize,
     long: usize,
     number: u64,
-    size: u16,
+    fragment_size: u16,
     data_size: u32,
     start: u32,
     count: u16,
+    payload_length: usize,
 ) -> u8
-    requires { ⌜ (Good (now t)) × ((at ≡ find number (placesOf (now t))) × (number < top)) ⌝ }
-    ensures { λ r. ⌜ r ≡ refusal (stateOf (now (t .entry))) long (callOf 0 number size «data_size» start count []) ⌝ }
+    requires { ⌜ (GoodAssembler (now t)) × ((at ≡ find number (placesOf (now t))) × (number < top)) ⌝ }
+    ensures { λ r. ⌜ r ≡ fragmentRefusal (assemblerOf (now (t .entry))) long (headWith number «fragment_size» «data_size» start count «payload_length») ⌝ }
 {
     let f = t[FRAGMENT_SIZE];
     let p = t[PLACE_SIZE];
@@ -61,7 +61,7 @@ pub(crate) fn refuse(
     if number == 0 {
         return 4;
     }
-    let s = size as u64;
+    let s = fragment_size as u64;
     if s != f {
         return 6;
     }

@@ -1,5 +1,5 @@
 // A run put into its place, and the end of a call: returned, dropped or kept.
-use crate::Answer;
+use crate::fragment::Answer;
 use crate::refusal::refuse;
 use assembly_record::area::clear_at;
 use assembly_record::area::copy_at;
@@ -17,23 +17,23 @@ use assembly_record::rows::wipe_at;
 use assembly_record::table::pick_victim;
 use assembly_record::table::seek;
 ghost use mathlib.Core.Path.{_≡_};
-ghost use mathlib.Core.List.{[]};
 ghost use Prim.Native.Nat.{_<_};
 ghost use lib.ListN.{length, getD};
 ghost use lib.Dec.{eqb};
+ghost use Rattle.assembly_record.specs.Sizes.{assemblerSize};
 ghost use Rattle.sequence_number.specs.Number.{top};
-ghost use Rattle.assembly_record.specs.State.{at};
-ghost use Rattle.fragment_assembler.specs.Refusal.{callOf};
-ghost use Rattle.fragment_assembler.specs.Call.{settle, finish};
-ghost use Rattle.assembly_record.specs.Words.{placesOf, stateOf};
-ghost use Rattle.assembly_record.specs.Rules.{Good};
-ghost use Rattle.fragment_assembler.specs.Promise.{Does};
-ghost use Rattle.fragment_assembler.specs.Inner.{Ends, Closes, workOf, Runs, Worked};
+ghost use Rattle.assembly_record.specs.State.{placeAt};
+ghost use Rattle.fragment_assembler.specs.Fragment.{fragmentWith, runWith};
+ghost use Rattle.fragment_assembler.specs.Call.{dropIfFull, endAt};
+ghost use Rattle.assembly_record.specs.Words.{placesOf, assemblerOf};
+ghost use Rattle.assembly_record.specs.Rules.{GoodAssembler};
+ghost use Rattle.fragment_assembler.specs.Promise.{TakesFragment};
+ghost use Rattle.fragment_assembler.specs.Inner.{Ends, Closes, RunAsks, Worked};
 
 // Where 129 are in assembly one number goes.
 fn drop_one(t: &mut [u64]) -> Answer
-    requires { ⌜ length (now t) ≡ 906 ⌝ }
-    ensures { λ r. ⌜ Ends (now (t .entry)) (settle (eqb (getD (now (t .entry)) 2 0) 1) (placesOf (now (t .entry)))) r (now (t .exit)) ⌝ }
+    requires { ⌜ length (now t) ≡ assemblerSize ⌝ }
+    ensures { λ r. ⌜ Ends (now (t .entry)) (dropIfFull (eqb (getD (now (t .entry)) 2 0) 1) (placesOf (now (t .entry)))) r (now (t .exit)) ⌝ }
 {
     let free = seek(t, 0);
     if free < PLACES {
@@ -48,7 +48,7 @@ fn drop_one(t: &mut [u64]) -> Answer
 // The end of a call on place `seat`: completeness is asked first. Only an opening can make the 129th.
 fn close(t: &mut [u64], seat: usize, opened: bool) -> Answer
     requires { ⌜ Closes (now t) seat opened ⌝ }
-    ensures { λ r. ⌜ Ends (now (t .entry)) (finish (stateOf (now (t .entry))) (workOf seat (at (placesOf (now (t .entry))) seat) [])) r (now (t .exit)) ⌝ }
+    ensures { λ r. ⌜ Ends (now (t .entry)) (endAt (assemblerOf (now (t .entry))) seat (placeAt (placesOf (now (t .entry))) seat)) r (now (t .exit)) ⌝ }
 {
     let b = TABLE + ROW * seat;
     let number = t[b];
@@ -79,8 +79,8 @@ fn insert_frags(
     count: u16,
     payload: &[u8],
 ) -> Answer
-    requires { ⌜ Runs (now t) (length (now area)) seat opened (callOf time number 0 0 start count (now payload)) ⌝ }
-    ensures { λ r. ⌜ Worked (now (t .entry)) (now (area .entry)) seat (callOf time number 0 0 start count (now (payload .entry))) r (now (t .exit)) (now (area .exit)) ⌝ }
+    requires { ⌜ RunAsks (now t) (length (now area)) seat opened (runWith number time start count (now payload)) ⌝ }
+    ensures { λ r. ⌜ Worked (now (t .entry)) (now (area .entry)) seat (runWith number time start count (now (payload .entry))) r (now (t .exit)) (now (area .exit)) ⌝ }
 {
     let f = t[FRAGMENT_SIZE] as usize;
     let p = t[PLACE_SIZE] as usize;
@@ -101,17 +101,27 @@ pub(crate) fn take_frags(
     area: &mut [u8],
     time: u64,
     number: u64,
-    size: u16,
+    fragment_size: u16,
     data_size: u32,
     start: u32,
     count: u16,
     payload: &[u8],
 ) -> Answer
-    requires { ⌜ (Good (now t)) × (number < top) ⌝ }
-    ensures { λ r. ⌜ Does (now (t .entry)) (now (area .entry)) (callOf time number size «data_size» start count (now (payload .entry))) r (now (t .exit)) (now (area .exit)) ⌝ }
+    requires { ⌜ (GoodAssembler (now t)) × (number < top) ⌝ }
+    ensures { λ r. ⌜ TakesFragment (now (t .entry)) (now (area .entry)) (fragmentWith time number «fragment_size» «data_size» start count (now (payload .entry))) r (now (t .exit)) (now (area .exit)) ⌝ }
 {
     let at = seek(t, number);
-    let no = refuse(t, at, area.len(), number, size, data_size, start, count);
+    let no = refuse(
+        t,
+        at,
+        area.len(),
+        number,
+        fragment_size,
+        data_size,
+        start,
+        count,
+        payload.len(),
+    );
     if no != 0 {
         return Answer::Refused(no);
     }

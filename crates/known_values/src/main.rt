@@ -1,13 +1,13 @@
 // Document 01's "Known values at the edges" that are not in the table, and those of its "Easy errors" that the table does not show, run and written out.
-use fragment_assembler::Answer;
-use fragment_assembler::Start;
+use fragment_assembler::fragment::Answer;
 use number_set::set::SequenceNumberSet;
+use outcome::Listing;
+use outcome::SetUp;
 use sequence_number::ByteOrder;
-use writer_proxy::missing::Listing;
 ghost use mathlib.Core.Path.{_≡_};
 ghost use lib.ListN.{length};
-ghost use Rattle.assembly_record.specs.Rules.{Good};
-ghost use Rattle.proxy_record.specs.Record.{Good as GoodProxy};
+ghost use Rattle.assembly_record.specs.Sizes.{assemblerSize};
+ghost use Rattle.assembly_record.specs.Rules.{GoodAssembler};
 
 fn say(text: &[u8]) {
     io::write_all(1, text);
@@ -70,28 +70,38 @@ fn told(a: Answer) {
 
 // The numbers 1 to 128 opened, each with the first of its two fragments.
 fn open_all(t: &mut [u64], area: &mut [u8])
-    requires { ⌜ Good (now t) ⌝ }
-    ensures { λ _. ⌜ Good (now (t .exit)) ⌝ }
+    requires { ⌜ GoodAssembler (now t) ⌝ }
+    ensures { λ _. ⌜ GoodAssembler (now (t .exit)) ⌝ }
 {
     let mut i: u32 = 1;
     while i < 129 {
-        fragment_assembler::new_datafrag(t, area, 0, i as i64, 4, 8, 1, 1, b"abcd");
+        fragment_assembler::fragment::new_datafrag(t, area, 0, i as i64, 4, 8, 1, 1, b"abcd");
         i += 1;
     }
 }
 
 // A 129th beside them, with so many of its two fragments: the answer, and how many are in assembly after it.
 fn one_more(t: &mut [u64], area: &mut [u8], reliable: bool, fragments: u16)
-    requires { ⌜ length (now t) ≡ 906 ⌝ }
+    requires { ⌜ length (now t) ≡ assemblerSize ⌝ }
 {
-    let Start::Ready = fragment_assembler::set_up(t, 4, reliable, 8) else {
+    let SetUp::Ready = fragment_assembler::set_up::set_up(t, 4, reliable, 8) else {
         return;
     };
     open_all(t, area);
-    let a = fragment_assembler::new_datafrag(t, area, 0, 129, 4, 8, 1, fragments, b"abcdefgh");
+    let a = fragment_assembler::fragment::new_datafrag(
+        t,
+        area,
+        0,
+        129,
+        4,
+        8,
+        1,
+        fragments,
+        b"abcdefgh",
+    );
     told(a);
     say(b"; in assembly: ");
-    number(fragment_assembler::in_assembly(t) as u64);
+    number(fragment_assembler::query::in_assembly(t) as u64);
     say(b"\n");
 }
 
@@ -108,18 +118,18 @@ fn show(bytes: &[u8]) {
 
 // A place that held a block is opened again, and its second fragment comes with no bytes: zeros, and nothing old.
 fn reopened(t: &mut [u64], area: &mut [u8])
-    requires { ⌜ length (now t) ≡ 906 ⌝ }
+    requires { ⌜ length (now t) ≡ assemblerSize ⌝ }
 {
-    let Start::Ready = fragment_assembler::set_up(t, 4, true, 8) else {
+    let SetUp::Ready = fragment_assembler::set_up::set_up(t, 4, true, 8) else {
         return;
     };
-    fragment_assembler::new_datafrag(t, area, 0, 1, 4, 8, 1, 2, b"abcdefgh");
+    fragment_assembler::fragment::new_datafrag(t, area, 0, 1, 4, 8, 1, 2, b"abcdefgh");
     say(b"a block:");
-    show(fragment_assembler::view(t, area, 0, 8));
-    fragment_assembler::new_datafrag(t, area, 0, 2, 4, 8, 1, 1, b"wxyz");
-    fragment_assembler::new_datafrag(t, area, 0, 2, 4, 8, 2, 1, b"");
+    show(fragment_assembler::view::view(t, area, 0, 8));
+    fragment_assembler::fragment::new_datafrag(t, area, 0, 2, 4, 8, 1, 1, b"wxyz");
+    fragment_assembler::fragment::new_datafrag(t, area, 0, 2, 4, 8, 2, 1, b"");
     say(b"its place reopened:");
-    show(fragment_assembler::view(t, area, 0, 8));
+    show(fragment_assembler::view::view(t, area, 0, 8));
 }
 
 // A heartbeat that starts below the base: the list starts at the base.

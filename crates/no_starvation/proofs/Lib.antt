@@ -1,4 +1,6 @@
-pub mod BlockLaws
+pub mod BlockStands
+pub mod OtherLaws
+pub mod OwnLaws
 pub mod StarveLaws
 pub mod StarveCalls
 pub mod StarveExample

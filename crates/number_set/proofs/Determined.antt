@@ -3,14 +3,15 @@ use Prim.Native.Nat.{ℕ}
 use mathlib.Core.Path.{_≡_, refl, _∙_, sym}
 use mathlib.Core.Bool.{Bool}
 use mathlib.Core.List.{List}
-use Rattle.sequence_number.specs.Outcome.{Outcome, refused, done}
+use Rattle.outcome.specs.Outcome.{Outcome, refused, done}
 use Rattle.sequence_number.specs.Kind.{Kind}
 use Rattle.sequence_number.specs.declared.ByteOrder.{ByteOrder}
 use Rattle.sequence_number.specs.declared.wire.Written.{Written}
-use Rattle.sequence_number.proofs.Determined.{said-determined, wrote-determined}
+use Rattle.outcome.proofs.Determined.{said-determined}
+use Rattle.sequence_number.proofs.Determined.{wrote-determined}
 use Rattle.number_set.specs.NumberSet.{NumberSet}
-use Rattle.number_set.specs.SetWire.{measured, WritesSet}
-use Rattle.number_set.specs.Walk.{walked, Walks}
+use Rattle.number_set.specs.SetWire.{measuredSaid, WritesSet}
+use Rattle.number_set.specs.Walk.{walkedSaid, Walks}
 use Rattle.number_set.specs.declared.set.Measured.{Measured}
 use Rattle.number_set.specs.declared.set.Walked.{Walked}
 use Rattle.number_set.specs.declared.set.Measured.the-variants as measured-as
@@ -20,23 +21,23 @@ abbrev measured-back : Outcome ℕ → Measured
 measured-back (refused n) = measured-as.Refused n
 measured-back (done x) = measured-as.Bytes x
 
-measured-back-said : (r : Measured) → measured-back (measured r) ≡ r
+measured-back-said : (r : Measured) → measured-back (measuredSaid r) ≡ r
 measured-back-said (measured-as.Refused n) = refl
 measured-back-said (measured-as.Bytes x) = refl
 
-pub measured-determined : (r r′ : Measured) {x : Outcome ℕ} → measured r ≡ x → measured r′ ≡ x → r ≡ r′
-measured-determined = said-determined measured measured-back measured-back-said
+pub measured-determined : (r r′ : Measured) {x : Outcome ℕ} → measuredSaid r ≡ x → measuredSaid r′ ≡ x → r ≡ r′
+measured-determined = said-determined measuredSaid measured-back measured-back-said
 
 abbrev walked-back : Outcome ℕ → Walked
 walked-back (refused n) = walked-as.Refused n
 walked-back (done x) = walked-as.Listed x
 
-walked-back-said : (r : Walked) → walked-back (walked r) ≡ r
+walked-back-said : (r : Walked) → walked-back (walkedSaid r) ≡ r
 walked-back-said (walked-as.Refused n) = refl
 walked-back-said (walked-as.Listed x) = refl
 
-pub walked-determined : (r r′ : Walked) {x : Outcome ℕ} → walked r ≡ x → walked r′ ≡ x → r ≡ r′
-walked-determined = said-determined walked walked-back walked-back-said
+pub walked-determined : (r r′ : Walked) {x : Outcome ℕ} → walkedSaid r ≡ x → walkedSaid r′ ≡ x → r ≡ r′
+walked-determined = said-determined walkedSaid walked-back walked-back-said
 
 pub writes-set-determined : {k : Kind} {o : ByteOrder} {s : NumberSet (k .Number)} {before after after′ : List ℕ} {r r′ : Written}
     → WritesSet k o s before r after → WritesSet k o s before r′ after′ → (r ≡ r′) × (after ≡ after′)

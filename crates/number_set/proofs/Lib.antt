@@ -1,10 +1,5 @@
-pub mod WidthLaws
-pub mod BitLaws
-pub mod PositionLaws
 pub mod SetWireLaws
-pub mod WordBitLaws
 pub mod WalkLaws
-pub mod ClimbLaws
 pub mod MakeLaws
 pub mod SetAnswers
 pub mod MemberLaws

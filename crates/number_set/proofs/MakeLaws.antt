@@ -10,19 +10,19 @@ use native.Mathlib.Numerals.{add-one}
 use native.Mathlib.Nat.{add-zero, add-suc}
 use lib.ListN.{length, getD, drop}
 use lib.Seq.{drop-cons, drop-length}
-use borrow.Author.Tests.{lt-ltb, le-ltb, le-leb, lt-leb}
-use Rattle.sequence_number.specs.Outcome.{Outcome, refused, done}
+use borrow.Author.Tests.{le-leb, lt-leb}
+use Rattle.outcome.specs.Outcome.{Outcome, refused, done}
 use Rattle.sequence_number.specs.Kind.{Kind}
-use Rattle.number_set.specs.Bitmap.{setBit}
-use Rattle.number_set.specs.NumberSet.{NumberSet, zeroWords, emptyAt}
-use Rattle.number_set.specs.Inner.{markedTo}
-use Rattle.number_set.specs.Make.{rising, smaller, spanned, setBits, setFrom, setOver, makeSet}
-use Rattle.sequence_number.proofs.Split.{split, split-lt, both}
+use Rattle.bitmap.specs.Bitmap.{zeroWords}
+use Rattle.number_set.specs.NumberSet.{NumberSet, emptyAt}
+use Rattle.bitmap.specs.Marking.{markedTo}
+use Rattle.number_set.specs.Make.{isRising, smaller, spanned, setBits, setFrom, setOver, makeSet}
+use Rattle.outcome.proofs.Split.{split, split-lt, both}
 use Rattle.sequence_number.proofs.KindLaws.{Lawful}
 
 -- ---- rising lists
 
--- whether each of the first n elements is below the next: `rising` by index, as the loop goes
+-- whether each of the first n elements is below the next: `isRising` by index, as the loop goes
 abbrev pub risingTo : {A : Type 0} → (A → A → Bool) → A → List A → ℕ → Bool
 risingTo below d xs zero = true
 risingTo below d xs (suc n) = risingTo below d xs n && below (getD xs n d) (getD xs (suc n) d)
@@ -34,7 +34,7 @@ rising-front below d x xs (suc n) =
     ap (λ (b : Bool). b && below (getD xs n d) (getD xs (suc n) d)) (rising-front below d x xs n)
     ∙ and-assoc (below x (getD xs 0 d)) (risingTo below d xs n) (below (getD xs n d) (getD xs (suc n) d))
 
-rising-indexed : (k : Kind) (xs : List (k .Number)) → risingTo (k .below) (k .nought) xs (length xs - 1) ≡ rising k xs
+rising-indexed : (k : Kind) (xs : List (k .Number)) → risingTo (k .below) (k .nought) xs (length xs - 1) ≡ isRising k xs
 rising-indexed k [] = refl
 rising-indexed k (x ∷ []) = refl
 rising-indexed k (x ∷ y ∷ xs) =
@@ -94,7 +94,7 @@ module _ (k : Kind) (law : Lawful k) where
       split (k .below x base) (λ e. rw e (omega arith)) (λ e. rw e (law .rank-above base x e))
 
   -- no element is below the lower of base and first
-  pub none-below : (base : k .Number) (xs : List (k .Number)) → rising k xs ≡ true → (low : k .Number) → low ≡ smaller k base (getD xs 0 (k .nought))
+  pub none-below : (base : k .Number) (xs : List (k .Number)) → isRising k xs ≡ true → (low : k .Number) → low ≡ smaller k base (getD xs 0 (k .nought))
       → (j : ℕ) → j < length xs → law .rank low ≤ law .rank (getD xs j (k .nought))
   none-below base xs r low l j h =
       let a = first-least xs (length xs - 1) (rising-indexed k xs ∙ r) j (omega arith) in
@@ -103,34 +103,18 @@ module _ (k : Kind) (law : Lawful k) where
 
 -- the answers of the test
 module _ (k : Kind) where
-  pub rising-short : (xs : List (k .Number)) → length xs ≡ 0 → true ≡ rising k xs
+  pub rising-short : (xs : List (k .Number)) → length xs ≡ 0 → true ≡ isRising k xs
   rising-short [] h = refl
   rising-short (x ∷ xs) h = absurd (omega arith)
 
   pub rising-fails : (xs : List (k .Number)) (i : ℕ) → i < length xs - 1 → k .below (getD xs i (k .nought)) (getD xs (i + 1) (k .nought)) ≡ false
-      → false ≡ rising k xs
+      → false ≡ isRising k xs
   rising-fails xs i h q = sym (rising-stops (k .below) (k .nought) xs i (length xs - 1) h q) ∙ rising-indexed k xs
 
-  pub rising-ends : (xs : List (k .Number)) (i : ℕ) → i ≡ length xs - 1 → risingTo (k .below) (k .nought) xs i ≡ true → true ≡ rising k xs
+  pub rising-ends : (xs : List (k .Number)) (i : ℕ) → i ≡ length xs - 1 → risingTo (k .below) (k .nought) xs i ≡ true → true ≡ isRising k xs
   rising-ends xs i e r = sym r ∙ ap (risingTo (k .below) (k .nought) xs) e ∙ rising-indexed k xs
 
 -- ---- marking
-
--- a turn of the loop that marks
-module _ {A : Type 0} (place : A → ℕ) (d : A) (xs : List A) (count : ℕ) where
-  pub mark-yes : (j : ℕ) (ws : List ℕ) → ws ≡ markedTo place d xs count j → place (getD xs j d) < count
-      → setBit ws (place (getD xs j d)) ≡ markedTo place d xs count (j + 1)
-  mark-yes j ws e h =
-      ap (λ (v : List ℕ). setBit v (place (getD xs j d))) e
-      ∙ sym (ap (λ (b : Bool). cond b (setBit (markedTo place d xs count j) (place (getD xs j d))) (markedTo place d xs count j)) (lt-ltb (place (getD xs j d)) count h))
-      ∙ ap (markedTo place d xs count) (sym (add-one j))
-
-  pub mark-no : (j : ℕ) (ws : List ℕ) → ws ≡ markedTo place d xs count j → count ≤ place (getD xs j d)
-      → ws ≡ markedTo place d xs count (j + 1)
-  mark-no j ws e h =
-      e
-      ∙ sym (ap (λ (b : Bool). cond b (setBit (markedTo place d xs count j) (place (getD xs j d))) (markedTo place d xs count j)) (le-ltb (place (getD xs j d)) count h))
-      ∙ ap (markedTo place d xs count) (sym (add-one j))
 
 -- by index as by the list's shape
 module _ {A : Type 0} (place : A → ℕ) (d : A) (xs : List A) (count : ℕ) where
@@ -149,21 +133,21 @@ spanned-small away = ⊎-elim (λ h. rw (lt-leb 256 away h) (omega arith)) (λ h
 -- ---- what making answers, by the tests that the code makes
 
 module _ (k : Kind) {A : Type 0} (answer : Outcome (NumberSet (k .Number)) → A) (base : k .Number) where
-  pub make-falls : (xs : List (k .Number)) → rising k xs ≡ false → answer (refused 15) ≡ answer (makeSet k base xs)
+  pub make-falls : (xs : List (k .Number)) → isRising k xs ≡ false → answer (refused 15) ≡ answer (makeSet k base xs)
   make-falls xs r = rw r
 
-  pub make-empty : (xs : List (k .Number)) → rising k xs ≡ true → length xs ≡ 0 → answer (done (emptyAt base)) ≡ answer (makeSet k base xs)
+  pub make-empty : (xs : List (k .Number)) → isRising k xs ≡ true → length xs ≡ 0 → answer (done (emptyAt base)) ≡ answer (makeSet k base xs)
   make-empty [] r e = refl
   make-empty (x ∷ xs) r e = absurd (omega arith)
 
-  pub make-low : (xs : List (k .Number)) → rising k xs ≡ true → (length xs ≡ 0 → ⊥) → (low : k .Number) → low ≡ smaller k base (getD xs 0 (k .nought))
+  pub make-low : (xs : List (k .Number)) → isRising k xs ≡ true → (length xs ≡ 0 → ⊥) → (low : k .Number) → low ≡ smaller k base (getD xs 0 (k .nought))
       → k .below low (k .least) ≡ true → answer (done (emptyAt (k .least))) ≡ answer (makeSet k base xs)
   make-low [] r ne low l b = absurd (ne refl)
   make-low (x ∷ xs) r ne low l b =
       let c : k .below (smaller k base x) (k .least) ≡ true = sym (ap (λ (y : k .Number). k .below y (k .least)) l) ∙ b in
       rw (r, c)
 
-  pub make-span : (xs : List (k .Number)) → rising k xs ≡ true → (length xs ≡ 0 → ⊥) → (low : k .Number) → low ≡ smaller k base (getD xs 0 (k .nought))
+  pub make-span : (xs : List (k .Number)) → isRising k xs ≡ true → (length xs ≡ 0 → ⊥) → (low : k .Number) → low ≡ smaller k base (getD xs 0 (k .nought))
       → k .below low (k .least) ≡ false → (count : ℕ) (ws : List ℕ) → count ≡ spanned (k .apart low (getD xs (length xs - 1) (k .nought)))
       → ws ≡ markedTo (k .apart low) (k .nought) xs count (length xs)
       → answer (done (record { base = low; count = count; words = ws })) ≡ answer (makeSet k base xs)
@@ -178,7 +162,7 @@ module _ (k : Kind) {A : Type 0} (answer : Outcome (NumberSet (k .Number)) → A
 
 -- a refusal has its number: it is never 0
 pub make-numbered : (k : Kind) (base : k .Number) (xs : List (k .Number)) → makeSet k base xs ≡ refused 0 → ⊥
-make-numbered k base xs e = go (rising k xs) e
+make-numbered k base xs e = go (isRising k xs) e
   where
     go : (b : Bool) → cond b (done (setOver k base xs)) (refused 15) ≡ refused 0 → ⊥
     go true e = let z : _≡_ {A = ℕ} 0 1 = cc in omega arith

@@ -12,13 +12,13 @@ use lib.Seq.{getD-append-add}
 use lib.Dec.{ltb, eqb, T}
 use borrow.Author.Tests.{lt-ltb, le-ltb, eq-eqb, eqb-true}
 use Rattle.sequence_number.specs.Kind.{Kind}
-use Rattle.number_set.specs.Bitmap.{hasBit, setBit, onlyIf, positions}
-use Rattle.number_set.specs.NumberSet.{NumberSet, members, zeroWords}
-use Rattle.number_set.specs.Inner.{markedTo}
-use Rattle.number_set.specs.Make.{rising, smaller, setFrom}
-use Rattle.sequence_number.proofs.Split.{split-lt}
+use Rattle.bitmap.specs.Bitmap.{hasBit, setBit, onlyIf, positions, zeroWords}
+use Rattle.number_set.specs.NumberSet.{NumberSet, members}
+use Rattle.bitmap.specs.Marking.{markedTo}
+use Rattle.number_set.specs.Make.{isRising, smaller, setFrom}
+use Rattle.outcome.proofs.Split.{split-lt}
 use Rattle.sequence_number.proofs.KindLaws.{Lawful}
-use Rattle.number_set.proofs.BitLaws.{set-has}
+use Rattle.bitmap.proofs.BitLaws.{set-has}
 use Rattle.number_set.proofs.MakeLaws.{spanned-small, none-below, marked-indexed}
 
 -- ---- which positions are listed
@@ -195,7 +195,7 @@ index-mem d (y ∷ l) zero h = List·Memᴰ·head refl
 index-mem d (y ∷ l) (suc j) h = List·Memᴰ·tail (index-mem d l j (le-of-suc-le-suc h))
 
 -- "list members through last are set": a made set that is not empty at 1 holds exactly the list's members below base + count
-module _ (k : Kind) (law : Lawful k) (base x : k .Number) (xs : List (k .Number)) (r : rising k (x ∷ xs) ≡ true)
+module _ (k : Kind) (law : Lawful k) (base x : k .Number) (xs : List (k .Number)) (r : isRising k (x ∷ xs) ≡ true)
     (above : k .below (smaller k base x) (k .least) ≡ false) (last n : k .Number) where
   abbrev pub low : k .Number
   low = smaller k base x

@@ -6,17 +6,19 @@ use mathlib.Core.List.{List, [], _∷_, _++_, append-assoc}
 use native.Mathlib.Omega.{arith}
 use lib.ListN.{length, getD, take, drop, replicate, length-append}
 use lib.Seq.{take-suc}
-use Rattle.sequence_number.specs.Outcome.{done, found}
-use Rattle.sequence_number.specs.Lent.{over}
+use Rattle.outcome.specs.Outcome.{done, found}
+use Rattle.outcome.specs.Lent.{over}
 use Rattle.sequence_number.specs.Word.{wordAt, wordBytes}
 use Rattle.sequence_number.specs.Kind.{Kind}
-use Rattle.number_set.specs.NumberSet.{NumberSet, wordCount, setLength}
-use Rattle.number_set.specs.SetWire.{wordsFrom, takenSet, readSet, readCount, wordsBytes, bitsBytes, setBytes}
+use Rattle.number_set.specs.NumberSet.{NumberSet}
+use Rattle.set_words.specs.SetWords.{wordCount, setLength, wordsFrom, readCount, wordsBytes, bitsBytes}
+use Rattle.number_set.specs.SetWire.{takenSet, readSet, setBytes}
 use Rattle.sequence_number.specs.declared.ByteOrder.{ByteOrder}
-use Rattle.sequence_number.proofs.Split.{split-lt}
+use Rattle.outcome.proofs.Split.{split-lt}
 use Rattle.sequence_number.proofs.KindLaws.{Lawful}
 use Rattle.sequence_number.proofs.WordLaws.{length-bytes, word-bytes, word-append}
-use Rattle.number_set.proofs.SetWireLaws.{length-words-bytes, length-set-bytes, count-done}
+use Rattle.set_words.proofs.SetWordsLaws.{length-words-bytes, count-done}
+use Rattle.number_set.proofs.SetWireLaws.{length-set-bytes}
 
 -- every word is one of 32 bits
 abbrev pub Words : List ℕ → Type 0

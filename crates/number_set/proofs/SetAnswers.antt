@@ -2,7 +2,7 @@
 use Prim.Native.Nat.{ℕ}
 use mathlib.Core.Path.{_≡_, refl}
 use lib.IntN.{ℤ}
-use Rattle.sequence_number.specs.Outcome.{Outcome, refused, done, refusal}
+use Rattle.outcome.specs.Outcome.{Outcome, refused, done, refusal}
 use Rattle.number_set.specs.NumberSet.{NumberSet}
 use Rattle.number_set.specs.SetWire.{Taken, sequenceSetRead, fragmentSetRead}
 use Rattle.number_set.specs.Make.{sequenceSetMade, fragmentSetMade}

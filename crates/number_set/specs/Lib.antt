@@ -1,6 +1,4 @@
-pub mod Bitmap
 pub mod NumberSet
 pub mod SetWire
 pub mod Make
 pub mod Walk
-pub mod Inner

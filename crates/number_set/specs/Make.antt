@@ -5,18 +5,18 @@ use mathlib.Core.List.{List, [], _∷_}
 use lib.ListN.{length, getD}
 use lib.Dec.{ltb, leb}
 use lib.IntN.{ℤ, pos}
-use Rattle.sequence_number.specs.Outcome.{Outcome, refused, done}
+use Rattle.outcome.specs.Outcome.{Outcome, refused, done}
 use Rattle.sequence_number.specs.Kind.{Kind}
-use Rattle.number_set.specs.Bitmap.{setBit}
-use Rattle.number_set.specs.NumberSet.{NumberSet, sequenceStruct, fragmentStruct, zeroWords, emptyAt}
+use Rattle.bitmap.specs.Bitmap.{zeroWords, setBit}
+use Rattle.number_set.specs.NumberSet.{NumberSet, sequenceStruct, fragmentStruct, emptyAt}
 use Rattle.number_set.specs.declared.set.SequenceNumberSetMade.{SequenceNumberSetMade}
 use Rattle.number_set.specs.declared.set.FragmentNumberSetMade.{FragmentNumberSetMade}
 
 -- "strictly rising": each element is below the next
-abbrev pub rising : (k : Kind) → List (k .Number) → Bool
-rising k [] = true
-rising k (x ∷ []) = true
-rising k (x ∷ y ∷ xs) = k .below x y && rising k (y ∷ xs)
+abbrev pub isRising : (k : Kind) → List (k .Number) → Bool
+isRising k [] = true
+isRising k (x ∷ []) = true
+isRising k (x ∷ y ∷ xs) = k .below x y && isRising k (y ∷ xs)
 
 -- "base becomes the smaller of base and first element"
 abbrev pub smaller : (k : Kind) → k .Number → k .Number → k .Number
@@ -51,7 +51,7 @@ setOver k base (x ∷ xs) = setAbove k (smaller k base x) (getD (x ∷ xs) (leng
 
 -- "Making: 15" where the list does not rise strictly
 abbrev pub makeSet : (k : Kind) → k .Number → List (k .Number) → Outcome (NumberSet (k .Number))
-makeSet k base xs = cond (rising k xs) (done (setOver k base xs)) (refused 15)
+makeSet k base xs = cond (isRising k xs) (done (setOver k base xs)) (refused 15)
 
 -- the answers of making: a refusal has the empty set at 0
 abbrev pub sequenceSetMade : Outcome (NumberSet ℤ) → SequenceNumberSetMade

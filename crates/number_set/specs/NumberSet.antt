@@ -1,10 +1,10 @@
 -- A number set: base, bit count, words (RTPS 2.5, 8.3.5.5 and 9.4.2.6; of fragments 8.3.5.7 and 9.4.2.8). Assumes nothing.
-use Prim.Native.Nat.{ℕ, _+_, _*_, _/_}
+use Prim.Native.Nat.{ℕ}
 use mathlib.Core.List.{List, map}
-use lib.ListN.{replicate}
 use lib.IntN.{ℤ}
 use Rattle.sequence_number.specs.Kind.{Kind}
-use Rattle.number_set.specs.Bitmap.{positions}
+use Rattle.bitmap.specs.Bitmap.{zeroWords, positions}
+pub use Rattle.set_words.specs.SetWords.{setLength}
 use Rattle.number_set.specs.declared.set.SequenceNumberSet.{SequenceNumberSet}
 use Rattle.number_set.specs.declared.set.FragmentNumberSet.{FragmentNumberSet}
 
@@ -27,21 +27,10 @@ sequenceStruct s = record { base = s .base; count = s .count; words = s .words }
 abbrev pub fragmentStruct : NumberSet ℕ → FragmentNumberSet
 fragmentStruct s = record { base = s .base; count = s .count; words = s .words }
 
--- "Words held by value number eight": all zero
-abbrev pub zeroWords : List ℕ
-zeroWords = replicate 8 0
-
+-- the empty set at a base
 abbrev pub emptyAt : {N : Type 0} → N → NumberSet N
 emptyAt base = record { base = base; count = 0; words = zeroWords }
 
 -- "Bit i .. stands for base + i": the members, rising. Unused bits of the last word and words past the count are not looked at
 abbrev pub members : (k : Kind) → NumberSet (k .Number) → List (k .Number)
 members k s = map (k .plus (s .base)) (positions (s .words) (s .count))
-
--- "ceil(count / 32) words"
-abbrev pub wordCount : ℕ → ℕ
-wordCount count = (count + 31) / 32
-
--- "Length is 8 (sequence) or 4 (fragment), plus 4, plus 4 for each word": with a base of so many bytes
-abbrev pub setLength : ℕ → ℕ → ℕ
-setLength size count = size + 4 + 4 * wordCount count

@@ -1,16 +1,17 @@
 -- Reading, writing and measuring a set (RTPS 2.5, 9.4.2.6; of fragments 9.4.2.8): what each call promises. Assumes nothing.
-use Prim.Native.Nat.{ℕ, zero, suc, _+_, _*_, _-_}
+use Prim.Native.Nat.{ℕ, _+_}
 use mathlib.Core.Path.{_≡_}
 use mathlib.Core.Bool.{cond}
-use mathlib.Core.List.{List, [], _∷_, _++_}
-use lib.ListN.{length, getD, replicate}
+use mathlib.Core.List.{List, _++_}
+use lib.ListN.{length}
 use lib.Dec.{ltb}
 use lib.IntN.{ℤ, pos}
-use Rattle.sequence_number.specs.Outcome.{Outcome, refused, done, found, left}
-use Rattle.sequence_number.specs.Word.{wordAt, wordBytes}
+use Rattle.outcome.specs.Outcome.{Outcome, refused, done, found, left}
 use Rattle.sequence_number.specs.Kind.{Kind}
-use Rattle.sequence_number.specs.NumberWire.{wrote}
-use Rattle.number_set.specs.NumberSet.{NumberSet, sequenceStruct, fragmentStruct, emptyAt, wordCount, setLength}
+use Rattle.sequence_number.specs.NumberWire.{writtenSaid}
+use Rattle.set_words.specs.SetWords.{wordCount, setLength, readCount, readWords, bitsBytes}
+pub use Rattle.set_words.specs.SetWords.{writeSet}
+use Rattle.number_set.specs.NumberSet.{NumberSet, sequenceStruct, fragmentStruct, emptyAt}
 use Rattle.sequence_number.specs.declared.ByteOrder.{ByteOrder}
 use Rattle.sequence_number.specs.declared.wire.Written.{Written}
 use Rattle.number_set.specs.declared.set.SequenceNumberSetRead.{SequenceNumberSetRead}
@@ -19,26 +20,9 @@ use Rattle.number_set.specs.declared.set.Measured.{Measured}
 use Rattle.number_set.specs.declared.set.Measured.the-variants.{Refused, Bytes}
 
 -- the paper's number and value for the answer of measuring
-abbrev pub measured : Measured → Outcome ℕ
-measured (Refused n) = refused n
-measured (Bytes n) = done n
-
--- the count of the set whose base takes so many bytes: "1 for base or count, 2, 1 for words"
-abbrev pub readCount : ℕ → ByteOrder → List ℕ → Outcome ℕ
-readCount size o s =
-    cond (ltb (length s) (size + 4)) (refused 1)
-    (cond (ltb 256 (wordAt o s size)) (refused 2)
-    (cond (ltb (length s) (setLength size (wordAt o s size))) (refused 1)
-    (done (wordAt o s size))))
-
--- n words from a place on
-abbrev pub wordsFrom : ByteOrder → List ℕ → ℕ → ℕ → List ℕ
-wordsFrom o s at zero = []
-wordsFrom o s at (suc n) = wordsFrom o s at n ++ (wordAt o s (at + 4 * n) ∷ [])
-
--- "those past the count are zero after reading"
-abbrev pub readWords : ByteOrder → List ℕ → ℕ → ℕ → List ℕ
-readWords o s at n = wordsFrom o s at n ++ replicate (8 - n) 0
+abbrev pub measuredSaid : Measured → Outcome ℕ
+measuredSaid (Refused n) = refused n
+measuredSaid (Bytes n) = done n
 
 -- a set that was read, and "how many were taken"
 pub record Taken (N : Type 0) : Type 0 where
@@ -65,29 +49,13 @@ abbrev pub fragmentSetRead : Outcome (Taken ℕ) → FragmentNumberSetRead
 fragmentSetRead (refused n) = record { refusal = n; taken = 0; set = fragmentStruct (emptyAt 0) }
 fragmentSetRead (done t) = record { refusal = 0; taken = t .taken; set = fragmentStruct (t .set) }
 
--- the bytes of the first n words
-abbrev pub wordsBytes : ByteOrder → List ℕ → ℕ → List ℕ
-wordsBytes o ws zero = []
-wordsBytes o ws (suc n) = wordsBytes o ws n ++ wordBytes o (getD ws n 0)
-
--- the bytes of a count and its words
-abbrev pub bitsBytes : ByteOrder → ℕ → List ℕ → List ℕ
-bitsBytes o count ws = wordBytes o count ++ wordsBytes o ws (wordCount count)
-
 -- "A set is base, bit count (u32), then ceil(count / 32) words"; unused bits of the last word are written as they are
 abbrev pub setBytes : (k : Kind) → ByteOrder → NumberSet (k .Number) → List ℕ
 setBytes k o s = k .numberBytes o (s .base) ++ bitsBytes o (s .count) (s .words)
 
--- "written: 2, 3", with a base of so many bytes
-abbrev pub writeSet : ℕ → ℕ → ℕ → Outcome ℕ
-writeSet size count room =
-    cond (ltb 256 count) (refused 2)
-    (cond (ltb room (setLength size count)) (refused 3)
-    (done (setLength size count)))
-
 -- what writing a set to the lent bytes promises: the answer, and each byte
 pub record WritesSet (k : Kind) (o : ByteOrder) (s : NumberSet (k .Number)) (before : List ℕ) (r : Written) (after : List ℕ) : Type 0 where
-  pub answer : wrote r ≡ writeSet (k .size) (s .count) (length before)
+  pub answer : writtenSaid r ≡ writeSet (k .size) (s .count) (length before)
   pub bytes : after ≡ left (writeSet (k .size) (s .count) (length before)) (setBytes k o s) before
 
 -- "measured: 2", with a base of so many bytes

@@ -1,5 +1,4 @@
 // Number sets: rustdds 0.15.1, src/structure/sequence_number.rs.
-mod bitmap;
 pub mod make;
 pub mod set;
 pub mod walk;

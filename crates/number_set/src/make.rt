@@ -1,18 +1,14 @@
 // Making a set from a base and a strictly rising list, which stands for the Rust's BTreeSet.
-use crate::bitmap::with_mask;
 use crate::set::FragmentNumberSet;
 use crate::set::FragmentNumberSetMade;
 use crate::set::SequenceNumberSet;
 use crate::set::SequenceNumberSetMade;
+use bitmap::mark_fragment;
+use bitmap::mark_sequence;
 use sequence_number::number::natural;
 ghost use mathlib.Core.Path.{_≡_};
-ghost use Prim.Native.Nat.{ℕ, _-_, _≤_, _<_};
-ghost use lib.ListN.{length, getD};
-ghost use lib.IntN.{pos};
-ghost use Rattle.sequence_number.specs.Number.{natOf};
-ghost use Rattle.sequence_number.specs.Kind.{sequence, fragment};
-ghost use Rattle.number_set.specs.Inner.{markedTo};
-ghost use Rattle.number_set.specs.Make.{rising, smaller, spanned as spannedS, makeSet, sequenceSetMade, fragmentSetMade};
+ghost use Rattle.sequence_number.specs.Kind.{sequenceNumber, fragmentNumber};
+ghost use Rattle.number_set.specs.Make.{isRising, smaller, spanned as spannedS, makeSet, sequenceSetMade, fragmentSetMade};
 
 // The count of a set whose last member is so far from its base: of either width.
 fn spanned(away: u64) -> u32
@@ -25,7 +21,7 @@ fn spanned(away: u64) -> u32
 }
 
 fn rising_sequence(list: &[i64]) -> bool
-    ensures { λ r. ⌜ r ≡ rising sequence (now (list .entry)) ⌝ }
+    ensures { λ r. ⌜ r ≡ isRising sequenceNumber (now (list .entry)) ⌝ }
 {
     if list.len() == 0 {
         return true;
@@ -45,7 +41,7 @@ fn rising_sequence(list: &[i64]) -> bool
 }
 
 fn rising_fragment(list: &[u32]) -> bool
-    ensures { λ r. ⌜ r ≡ rising fragment (now (list .entry)) ⌝ }
+    ensures { λ r. ⌜ r ≡ isRising fragmentNumber (now (list .entry)) ⌝ }
 {
     if list.len() == 0 {
         return true;
@@ -65,7 +61,7 @@ fn rising_fragment(list: &[u32]) -> bool
 }
 
 fn smaller_sequence(a: i64, b: i64) -> i64
-    ensures { λ r. ⌜ r ≡ smaller sequence a b ⌝ }
+    ensures { λ r. ⌜ r ≡ smaller sequenceNumber a b ⌝ }
 {
     if b < a {
         return b;
@@ -74,49 +70,12 @@ fn smaller_sequence(a: i64, b: i64) -> i64
 }
 
 fn smaller_fragment(a: u32, b: u32) -> u32
-    ensures { λ r. ⌜ r ≡ smaller fragment a b ⌝ }
+    ensures { λ r. ⌜ r ≡ smaller fragmentNumber a b ⌝ }
 {
     if b < a {
         return b;
     }
     a
-}
-
-// The words of the list's members, by their distance from low, below count.
-fn mark_sequence(list: &[i64], low: u64, count: u32) -> [u32; 8]
-    requires { ⌜ count ≤ 256 ⌝ }
-    requires { ⌜ ((k : ℕ) → k < length (now list) → low ≤ natOf (getD (now list) k (pos 0))) ⌝ }
-    ensures { λ r. ⌜ r ≡ markedTo (λ x. natOf x - low) (pos 0) (now (list .entry)) count (length (now (list .entry))) ⌝ }
-{
-    let mut words = [0u32; 8];
-    let mut j: usize = 0;
-    while j < list.len() {
-        let i = natural(list[j]) - low;
-        if i < count as u64 {
-            let k = (i / 32) as usize;
-            words[k] = with_mask(words[k], i as u32);
-        }
-        j += 1;
-    }
-    words
-}
-
-fn mark_fragment(list: &[u32], low: u32, count: u32) -> [u32; 8]
-    requires { ⌜ count ≤ 256 ⌝ }
-    requires { ⌜ ((k : ℕ) → k < length (now list) → low ≤ getD (now list) k 0) ⌝ }
-    ensures { λ r. ⌜ r ≡ markedTo (λ x. x - low) 0 (now (list .entry)) count (length (now (list .entry))) ⌝ }
-{
-    let mut words = [0u32; 8];
-    let mut j: usize = 0;
-    while j < list.len() {
-        let i = list[j] - low;
-        if i < count {
-            let k = (i / 32) as usize;
-            words[k] = with_mask(words[k], i);
-        }
-        j += 1;
-    }
-    words
 }
 
 fn sequence_made(refusal: u8, base: i64, count: u32, words: [u32; 8]) -> SequenceNumberSetMade
@@ -136,7 +95,7 @@ fn fragment_made(refusal: u8, base: u32, count: u32, words: [u32; 8]) -> Fragmen
 impl SequenceNumberSet {
     // The set from a base through the list's last member, cut at 256 bits; 15 where the list does not rise strictly.
     pub fn from_base_and_set(base: i64, list: &[i64]) -> SequenceNumberSetMade
-        ensures { λ r. ⌜ r ≡ sequenceSetMade (makeSet sequence base (now (list .entry))) ⌝ }
+        ensures { λ r. ⌜ r ≡ sequenceSetMade (makeSet sequenceNumber base (now (list .entry))) ⌝ }
     {
         if !rising_sequence(list) {
             return sequence_made(15, 0, 0, [0u32; 8]);
@@ -158,7 +117,7 @@ impl SequenceNumberSet {
 impl FragmentNumberSet {
     // The set from a base through the list's last member, cut at 256 bits; 15 where the list does not rise strictly.
     pub fn from_base_and_set(base: u32, list: &[u32]) -> FragmentNumberSetMade
-        ensures { λ r. ⌜ r ≡ fragmentSetMade (makeSet fragment base (now (list .entry))) ⌝ }
+        ensures { λ r. ⌜ r ≡ fragmentSetMade (makeSet fragmentNumber base (now (list .entry))) ⌝ }
     {
         if !rising_fragment(list) {
             return fragment_made(15, 0, 0, [0u32; 8]);

@@ -5,15 +5,17 @@ use sequence_number::wire::sequence_at;
 use sequence_number::wire::sequence_to;
 use sequence_number::word::read_word;
 use sequence_number::word::write_word;
+use set_words::BitCount;
+use set_words::read_count;
+use set_words::read_words;
+use set_words::set_length;
+use set_words::write_bits;
+use set_words::write_room;
 ghost use mathlib.Core.Path.{_≡_};
-ghost use Prim.Native.Nat.{_+_, _*_, _≤_};
-ghost use lib.ListN.{length};
-ghost use lib.Seq.{sets};
-ghost use Rattle.sequence_number.specs.Kind.{sequence, fragment};
-ghost use Rattle.sequence_number.specs.NumberWire.{wrote};
-ghost use Rattle.number_set.specs.NumberSet.{sequenceSet, fragmentSet, wordCount};
-ghost use Rattle.number_set.specs.Inner.{bitCount};
-ghost use Rattle.number_set.specs.SetWire.{measured, readCount, readWords, readSet, sequenceSetRead, fragmentSetRead, wordsBytes, bitsBytes, writeSet, WritesSet, measureSet};
+ghost use Prim.Native.Nat.{_≤_};
+ghost use Rattle.sequence_number.specs.Kind.{sequenceNumber, fragmentNumber};
+ghost use Rattle.number_set.specs.NumberSet.{sequenceSet, fragmentSet};
+ghost use Rattle.number_set.specs.SetWire.{measuredSaid, readSet, sequenceSetRead, fragmentSetRead, WritesSet, measureSet};
 
 pub struct SequenceNumberSet {
     pub base: i64,
@@ -51,12 +53,6 @@ pub struct FragmentNumberSetMade {
     pub set: FragmentNumberSet,
 }
 
-// A refusal, or the count of a set's bits.
-enum BitCount {
-    Refused(u8),
-    Bits(u32),
-}
-
 // A refusal, or how many bytes a set takes.
 pub enum Measured {
     Refused(u8),
@@ -69,93 +65,21 @@ pub enum Walked {
     Listed(usize),
 }
 
-// The count of a set whose base takes size bytes: of either width.
-fn read_count(size: usize, o: ByteOrder, s: &[u8]) -> BitCount
-    requires { ⌜ size ≤ 8 ⌝ }
-    ensures { λ r. ⌜ bitCount r ≡ readCount size o (now (s .entry)) ⌝ }
-{
-    if s.len() < size + 4 {
-        return BitCount::Refused(1);
-    }
-    let count = read_word(o, s, size);
-    if 256 < count {
-        return BitCount::Refused(2);
-    }
-    let n = ((count + 31) / 32) as usize;
-    if s.len() < size + 4 + 4 * n {
-        return BitCount::Refused(1);
-    }
-    BitCount::Bits(count)
-}
-
-// n words from a place on, and zeros.
-fn read_words(o: ByteOrder, s: &[u8], at: usize, n: usize) -> [u32; 8]
-    requires { ⌜ n ≤ 8 ⌝ }
-    requires { ⌜ at + 4 * n ≤ length (now s) ⌝ }
-    ensures { λ r. ⌜ r ≡ readWords o (now (s .entry)) at n ⌝ }
-{
-    let mut words = [0u32; 8];
-    let mut i: usize = 0;
-    while i < n {
-        words[i] = read_word(o, s, at + 4 * i);
-        i += 1;
-    }
-    words
-}
-
-// The first n words to a place.
-fn write_words(o: ByteOrder, words: [u32; 8], n: usize, out: &mut [u8], at: usize)
-    requires { ⌜ n ≤ 8 ⌝ }
-    requires { ⌜ at + 4 * n ≤ length (now out) ⌝ }
-    ensures { λ _. ⌜ now (out .exit) ≡ sets (now (out .entry)) at (wordsBytes o words n) ⌝ }
-{
-    let mut i: usize = 0;
-    while i < n {
-        write_word(o, words[i], out, at + 4 * i);
-        i += 1;
-    }
-}
-
-// The count and its words to a place: of either width.
-fn write_bits(o: ByteOrder, count: u32, words: [u32; 8], out: &mut [u8], at: usize)
-    requires { ⌜ count ≤ 256 ⌝ }
-    requires { ⌜ at + 4 + 4 * wordCount count ≤ length (now out) ⌝ }
-    ensures { λ _. ⌜ now (out .exit) ≡ sets (now (out .entry)) at (bitsBytes o count words) ⌝ }
-{
-    write_word(o, count, out, at);
-    write_words(o, words, ((count + 31) / 32) as usize, out, at + 4);
-}
-
-// What writing a set with a base of size bytes answers: of either width.
-fn write_room(size: usize, count: u32, room: usize) -> Written
-    requires { ⌜ size ≤ 8 ⌝ }
-    ensures { λ r. ⌜ wrote r ≡ writeSet size count room ⌝ }
-{
-    if 256 < count {
-        return Written::Refused(2);
-    }
-    let n = size + 4 + 4 * (((count + 31) / 32) as usize);
-    if room < n {
-        return Written::Refused(3);
-    }
-    Written::Wrote(n)
-}
-
 // What measuring a set with a base of size bytes answers: of either width.
 fn measure(size: usize, count: u32) -> Measured
     requires { ⌜ size ≤ 8 ⌝ }
-    ensures { λ r. ⌜ measured r ≡ measureSet size count ⌝ }
+    ensures { λ r. ⌜ measuredSaid r ≡ measureSet size count ⌝ }
 {
     if 256 < count {
         return Measured::Refused(2);
     }
-    Measured::Bytes(size + 4 + 4 * (((count + 31) / 32) as usize))
+    Measured::Bytes(set_length(size, count))
 }
 
 impl SequenceNumberSet {
     // The set at the front of the bytes.
     pub fn read_from(o: ByteOrder, s: &[u8]) -> SequenceNumberSetRead
-        ensures { λ r. ⌜ r ≡ sequenceSetRead (readSet sequence o (now (s .entry))) ⌝ }
+        ensures { λ r. ⌜ r ≡ sequenceSetRead (readSet sequenceNumber o (now (s .entry))) ⌝ }
     {
         match read_count(8, o, s) {
             BitCount::Refused(refusal) => {
@@ -186,7 +110,7 @@ impl SequenceNumberSet {
 
     // The set to the front of the lent bytes.
     pub fn write_to(self, o: ByteOrder, out: &mut [u8]) -> Written
-        ensures { λ r. ⌜ WritesSet sequence o (sequenceSet self) (now (out .entry)) r (now (out .exit)) ⌝ }
+        ensures { λ r. ⌜ WritesSet sequenceNumber o (sequenceSet self) (now (out .entry)) r (now (out .exit)) ⌝ }
     {
         let base = self.base;
         let count = self.count;
@@ -203,7 +127,7 @@ impl SequenceNumberSet {
 
     // How many bytes the set takes on the wire.
     pub fn len_serialized(self) -> Measured
-        ensures { λ r. ⌜ measured r ≡ measureSet 8 (self .count) ⌝ }
+        ensures { λ r. ⌜ measuredSaid r ≡ measureSet 8 (self .count) ⌝ }
     {
         measure(8, self.count)
     }
@@ -212,7 +136,7 @@ impl SequenceNumberSet {
 impl FragmentNumberSet {
     // The set at the front of the bytes.
     pub fn read_from(o: ByteOrder, s: &[u8]) -> FragmentNumberSetRead
-        ensures { λ r. ⌜ r ≡ fragmentSetRead (readSet fragment o (now (s .entry))) ⌝ }
+        ensures { λ r. ⌜ r ≡ fragmentSetRead (readSet fragmentNumber o (now (s .entry))) ⌝ }
     {
         match read_count(4, o, s) {
             BitCount::Refused(refusal) => {
@@ -243,7 +167,7 @@ impl FragmentNumberSet {
 
     // The set to the front of the lent bytes.
     pub fn write_to(self, o: ByteOrder, out: &mut [u8]) -> Written
-        ensures { λ r. ⌜ WritesSet fragment o (fragmentSet self) (now (out .entry)) r (now (out .exit)) ⌝ }
+        ensures { λ r. ⌜ WritesSet fragmentNumber o (fragmentSet self) (now (out .entry)) r (now (out .exit)) ⌝ }
     {
         let base = self.base;
         let count = self.count;
@@ -260,7 +184,7 @@ impl FragmentNumberSet {
 
     // How many bytes the set takes on the wire.
     pub fn len_serialized(self) -> Measured
-        ensures { λ r. ⌜ measured r ≡ measureSet 4 (self .count) ⌝ }
+        ensures { λ r. ⌜ measuredSaid r ≡ measureSet 4 (self .count) ⌝ }
     {
         measure(4, self.count)
     }

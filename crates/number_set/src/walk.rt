@@ -1,27 +1,28 @@
-// Walking a set: its members, rising or falling, to a lent list.
-use crate::bitmap::has;
+// Walking a set: what refuses a walk, and the members, rising or falling, to a lent list.
 use crate::set::FragmentNumberSet;
 use crate::set::SequenceNumberSet;
 use crate::set::Walked;
+use bitmap::has;
 use sequence_number::signed::bits_of;
+use set_walk::fall::fall_fragment;
+use set_walk::fall::fall_sequence;
+use set_walk::rise::rise_fragment;
+use set_walk::rise::rise_sequence;
 ghost use mathlib.Core.Path.{_≡_};
-ghost use mathlib.Core.Bool.{true, false, cond, _&&_};
-ghost use mathlib.Core.List.{[], _∷_, map, reverse};
-ghost use Prim.Native.Nat.{ℕ, _+_, _-_, _/_, _≤_, _<_, min};
-ghost use lib.ListN.{length, set};
+ghost use mathlib.Core.Bool.{cond};
+ghost use Prim.Native.Nat.{ℕ, _-_, _≤_, _<_, min};
+ghost use lib.ListN.{length};
 ghost use lib.Dec.{ltb};
-ghost use lib.Seq.{sets};
-ghost use Rattle.sequence_number.specs.Outcome.{refused, done};
-ghost use Rattle.sequence_number.specs.Kind.{sequence, fragment};
-ghost use Rattle.number_set.specs.Bitmap.{hasBit, positions};
-ghost use Rattle.number_set.specs.Inner.{wordPositions};
+ghost use Rattle.outcome.specs.Outcome.{refused, done};
+ghost use Rattle.sequence_number.specs.Kind.{sequenceNumber, fragmentNumber};
+ghost use Rattle.bitmap.specs.Bitmap.{positions, anyPast};
 ghost use Rattle.number_set.specs.NumberSet.{sequenceSet, fragmentSet};
-ghost use Rattle.number_set.specs.Walk.{walked, anyPast, Walks};
+ghost use Rattle.number_set.specs.Walk.{walkedSaid, Walks};
 
 // How many members there are, or 4 where one stands at position fit or past it: of either width.
 fn survey(words: [u32; 8], count: u32, fit: u32) -> Walked
     requires { ⌜ count ≤ 256 ⌝ }
-    ensures { λ r. ⌜ walked r ≡ cond (anyPast (λ i. ltb i fit) (positions words count)) (refused 4) (done (length (positions words count))) ⌝ }
+    ensures { λ r. ⌜ walkedSaid r ≡ cond (anyPast (λ i. ltb i fit) (positions words count)) (refused 4) (done (length (positions words count))) ⌝ }
 {
     let mut many: usize = 0;
     let mut i: u32 = 0;
@@ -39,7 +40,7 @@ fn survey(words: [u32; 8], count: u32, fit: u32) -> Walked
 
 // The first position, at most 256, that stands for no sequence number.
 fn sequence_fit(base: i64) -> u32
-    ensures { λ r. ⌜ ((k : ℕ) → k < 256 → ltb k r ≡ sequence .fits base k) ⌝ }
+    ensures { λ r. ⌜ ((k : ℕ) → k < 256 → ltb k r ≡ sequenceNumber .fits base k) ⌝ }
 {
     let u = bits_of(base);
     if u < 9223372036854775552 {
@@ -81,241 +82,10 @@ fn refused(words: [u32; 8], count: u32, fit: u32, room: usize) -> u8
     }
 }
 
-// The first m bits of a word.
-fn first_bits(w: u32, m: u32) -> u32
-    ensures { λ r. ⌜ ((i : ℕ) → i < 32 → hasBit (r ∷ []) i ≡ (ltb i m && hasBit (w ∷ []) i)) ⌝ }
-{
-    if 32 <= m {
-        return w;
-    }
-    if m == 0 {
-        return 0;
-    }
-    (w >> (32 - m)) << (32 - m)
-}
-
-// The number of bit i to place n, and the next place: the same one where the first bit of w, which is bit i, is not set.
-fn step_sequence(base: i64, i: u32, w: u32, out: &mut [i64], n: usize) -> usize
-    requires { ⌜ sequence .fits base i ≡ true ⌝ }
-    requires { ⌜ n < length (now out) ⌝ }
-    ensures { λ r. ⌜ r ≡ n + w / 2147483648 ⌝ }
-    ensures { λ _. ⌜ now (out .exit) ≡ set (now (out .entry)) n (sequence .plus base i) ⌝ }
-{
-    let x = base + i as i64;
-    out[n] = x;
-    n + (w >> 31) as usize
-}
-
-fn step_fragment(base: u32, i: u32, w: u32, out: &mut [u32], n: usize) -> usize
-    requires { ⌜ fragment .fits base i ≡ true ⌝ }
-    requires { ⌜ n < length (now out) ⌝ }
-    ensures { λ r. ⌜ r ≡ n + w / 2147483648 ⌝ }
-    ensures { λ _. ⌜ now (out .exit) ≡ set (now (out .entry)) n (fragment .plus base i) ⌝ }
-{
-    out[n] = base + i;
-    n + (w >> 31) as usize
-}
-
-// The members of a word, the lowest first, from a place on; and the place after them. While something is left of the word, a member is to come and takes the place.
-fn rise_rest_sequence(base: i64, from: u32, word: u32, out: &mut [i64], place: usize) -> usize
-    requires { ⌜ from ≤ 256 ⌝ }
-    requires { ⌜ anyPast (λ i. sequence .fits base (from + i)) (wordPositions word) ≡ false ⌝ }
-    requires { ⌜ place + length (wordPositions word) ≤ length (now out) ⌝ }
-    ensures { λ r. ⌜ r ≡ place + length (wordPositions word) ⌝ }
-    ensures { λ _. ⌜ now (out .exit) ≡ sets (now (out .entry)) place (map (λ i. sequence .plus base (from + i)) (wordPositions word)) ⌝ }
-{
-    let mut n = place;
-    let mut w = word;
-    let mut i = from;
-    while w != 0 {
-        n = step_sequence(base, i, w, out, n);
-        w = w << 1;
-        i += 1;
-    }
-    n
-}
-
-fn rise_rest_fragment(base: u32, from: u32, word: u32, out: &mut [u32], place: usize) -> usize
-    requires { ⌜ from ≤ 256 ⌝ }
-    requires { ⌜ anyPast (λ i. fragment .fits base (from + i)) (wordPositions word) ≡ false ⌝ }
-    requires { ⌜ place + length (wordPositions word) ≤ length (now out) ⌝ }
-    ensures { λ r. ⌜ r ≡ place + length (wordPositions word) ⌝ }
-    ensures { λ _. ⌜ now (out .exit) ≡ sets (now (out .entry)) place (map (λ i. fragment .plus base (from + i)) (wordPositions word)) ⌝ }
-{
-    let mut n = place;
-    let mut w = word;
-    let mut i = from;
-    while w != 0 {
-        n = step_fragment(base, i, w, out, n);
-        w = w << 1;
-        i += 1;
-    }
-    n
-}
-
-// The same, four bits at a turn while there are members past them.
-fn rise_word_sequence(base: i64, from: u32, word: u32, out: &mut [i64], place: usize) -> usize
-    requires { ⌜ from ≤ 224 ⌝ }
-    requires { ⌜ anyPast (λ i. sequence .fits base (from + i)) (wordPositions word) ≡ false ⌝ }
-    requires { ⌜ place + length (wordPositions word) ≤ length (now out) ⌝ }
-    ensures { λ r. ⌜ r ≡ place + length (wordPositions word) ⌝ }
-    ensures { λ _. ⌜ now (out .exit) ≡ sets (now (out .entry)) place (map (λ i. sequence .plus base (from + i)) (wordPositions word)) ⌝ }
-{
-    let mut n = place;
-    let mut w = word;
-    let mut i = from;
-    while w << 4 != 0 {
-        n = step_sequence(base, i, w, out, n);
-        n = step_sequence(base, i + 1, w << 1, out, n);
-        n = step_sequence(base, i + 2, w << 2, out, n);
-        n = step_sequence(base, i + 3, w << 3, out, n);
-        w = w << 4;
-        i += 4;
-    }
-    rise_rest_sequence(base, i, w, out, n)
-}
-
-fn rise_word_fragment(base: u32, from: u32, word: u32, out: &mut [u32], place: usize) -> usize
-    requires { ⌜ from ≤ 224 ⌝ }
-    requires { ⌜ anyPast (λ i. fragment .fits base (from + i)) (wordPositions word) ≡ false ⌝ }
-    requires { ⌜ place + length (wordPositions word) ≤ length (now out) ⌝ }
-    ensures { λ r. ⌜ r ≡ place + length (wordPositions word) ⌝ }
-    ensures { λ _. ⌜ now (out .exit) ≡ sets (now (out .entry)) place (map (λ i. fragment .plus base (from + i)) (wordPositions word)) ⌝ }
-{
-    let mut n = place;
-    let mut w = word;
-    let mut i = from;
-    while w << 4 != 0 {
-        n = step_fragment(base, i, w, out, n);
-        n = step_fragment(base, i + 1, w << 1, out, n);
-        n = step_fragment(base, i + 2, w << 2, out, n);
-        n = step_fragment(base, i + 3, w << 3, out, n);
-        w = w << 4;
-        i += 4;
-    }
-    rise_rest_fragment(base, i, w, out, n)
-}
-
-// The members of one word, the highest first, from place n on; and the place after them.
-fn fall_word_sequence(base: i64, from: u32, word: u32, out: &mut [i64], place: usize) -> usize
-    requires { ⌜ from ≤ 224 ⌝ }
-    requires { ⌜ anyPast (λ i. sequence .fits base (from + i)) (wordPositions word) ≡ false ⌝ }
-    requires { ⌜ place + length (wordPositions word) ≤ length (now out) ⌝ }
-    ensures { λ r. ⌜ r ≡ place + length (wordPositions word) ⌝ }
-    ensures { λ _. ⌜ now (out .exit) ≡ sets (now (out .entry)) place (map (λ i. sequence .plus base (from + i)) (reverse (wordPositions word))) ⌝ }
-{
-    let mut n = place;
-    let mut w = word;
-    let mut i = from + 32;
-    while w != 0 {
-        i -= 1;
-        if w % 2 == 1 {
-            let x = base + i as i64;
-            out[n] = x;
-            n += 1;
-        }
-        w = w / 2;
-    }
-    n
-}
-
-fn fall_word_fragment(base: u32, from: u32, word: u32, out: &mut [u32], place: usize) -> usize
-    requires { ⌜ from ≤ 224 ⌝ }
-    requires { ⌜ anyPast (λ i. fragment .fits base (from + i)) (wordPositions word) ≡ false ⌝ }
-    requires { ⌜ place + length (wordPositions word) ≤ length (now out) ⌝ }
-    ensures { λ r. ⌜ r ≡ place + length (wordPositions word) ⌝ }
-    ensures { λ _. ⌜ now (out .exit) ≡ sets (now (out .entry)) place (map (λ i. fragment .plus base (from + i)) (reverse (wordPositions word))) ⌝ }
-{
-    let mut n = place;
-    let mut w = word;
-    let mut i = from + 32;
-    while w != 0 {
-        i -= 1;
-        if w % 2 == 1 {
-            out[n] = base + i;
-            n += 1;
-        }
-        w = w / 2;
-    }
-    n
-}
-
-// The members from the lowest on, from the front of the lent list; and how many.
-fn rise_sequence(base: i64, words: [u32; 8], count: u32, out: &mut [i64]) -> usize
-    requires { ⌜ count ≤ 256 ⌝ }
-    requires { ⌜ anyPast (sequence .fits base) (positions words count) ≡ false ⌝ }
-    requires { ⌜ length (positions words count) ≤ length (now out) ⌝ }
-    ensures { λ r. ⌜ r ≡ length (positions words count) ⌝ }
-    ensures { λ _. ⌜ now (out .exit) ≡ sets (now (out .entry)) 0 (map (sequence .plus base) (positions words count)) ⌝ }
-{
-    let end = (count + 31) / 32;
-    let mut n: usize = 0;
-    let mut k: u32 = 0;
-    while k < end {
-        let w = first_bits(words[k as usize], count - 32 * k);
-        n = rise_word_sequence(base, 32 * k, w, out, n);
-        k += 1;
-    }
-    n
-}
-
-fn rise_fragment(base: u32, words: [u32; 8], count: u32, out: &mut [u32]) -> usize
-    requires { ⌜ count ≤ 256 ⌝ }
-    requires { ⌜ anyPast (fragment .fits base) (positions words count) ≡ false ⌝ }
-    requires { ⌜ length (positions words count) ≤ length (now out) ⌝ }
-    ensures { λ r. ⌜ r ≡ length (positions words count) ⌝ }
-    ensures { λ _. ⌜ now (out .exit) ≡ sets (now (out .entry)) 0 (map (fragment .plus base) (positions words count)) ⌝ }
-{
-    let end = (count + 31) / 32;
-    let mut n: usize = 0;
-    let mut k: u32 = 0;
-    while k < end {
-        let w = first_bits(words[k as usize], count - 32 * k);
-        n = rise_word_fragment(base, 32 * k, w, out, n);
-        k += 1;
-    }
-    n
-}
-
-// The members from the highest on, from the front of the lent list; and how many.
-fn fall_sequence(base: i64, words: [u32; 8], count: u32, out: &mut [i64]) -> usize
-    requires { ⌜ count ≤ 256 ⌝ }
-    requires { ⌜ anyPast (sequence .fits base) (positions words count) ≡ false ⌝ }
-    requires { ⌜ length (positions words count) ≤ length (now out) ⌝ }
-    ensures { λ r. ⌜ r ≡ length (positions words count) ⌝ }
-    ensures { λ _. ⌜ now (out .exit) ≡ sets (now (out .entry)) 0 (map (sequence .plus base) (reverse (positions words count))) ⌝ }
-{
-    let mut n: usize = 0;
-    let mut k: u32 = (count + 31) / 32;
-    while 0 < k {
-        k -= 1;
-        let w = first_bits(words[k as usize], count - 32 * k);
-        n = fall_word_sequence(base, 32 * k, w, out, n);
-    }
-    n
-}
-
-fn fall_fragment(base: u32, words: [u32; 8], count: u32, out: &mut [u32]) -> usize
-    requires { ⌜ count ≤ 256 ⌝ }
-    requires { ⌜ anyPast (fragment .fits base) (positions words count) ≡ false ⌝ }
-    requires { ⌜ length (positions words count) ≤ length (now out) ⌝ }
-    ensures { λ r. ⌜ r ≡ length (positions words count) ⌝ }
-    ensures { λ _. ⌜ now (out .exit) ≡ sets (now (out .entry)) 0 (map (fragment .plus base) (reverse (positions words count))) ⌝ }
-{
-    let mut n: usize = 0;
-    let mut k: u32 = (count + 31) / 32;
-    while 0 < k {
-        k -= 1;
-        let w = first_bits(words[k as usize], count - 32 * k);
-        n = fall_word_fragment(base, 32 * k, w, out, n);
-    }
-    n
-}
-
 impl SequenceNumberSet {
     // The members to the lent list, rising where up holds, else falling; 2, 4, 3.
     pub fn iter(self, up: bool, out: &mut [i64]) -> Walked
-        ensures { λ r. ⌜ Walks sequence (sequenceSet self) up (now (out .entry)) r (now (out .exit)) ⌝ }
+        ensures { λ r. ⌜ Walks sequenceNumber (sequenceSet self) up (now (out .entry)) r (now (out .exit)) ⌝ }
     {
         let base = self.base;
         let count = self.count;
@@ -337,7 +107,7 @@ impl SequenceNumberSet {
 impl FragmentNumberSet {
     // The members to the lent list, rising where up holds, else falling; 2, 4, 3.
     pub fn iter(self, up: bool, out: &mut [u32]) -> Walked
-        ensures { λ r. ⌜ Walks fragment (fragmentSet self) up (now (out .entry)) r (now (out .exit)) ⌝ }
+        ensures { λ r. ⌜ Walks fragmentNumber (fragmentSet self) up (now (out .entry)) r (now (out .exit)) ⌝ }
     {
         let base = self.base;
         let count = self.count;

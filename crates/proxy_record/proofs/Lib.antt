@@ -1,5 +1,10 @@
 pub mod EntriesLaws
+pub mod BelowFromLaws
+pub mod LookLaws
+pub mod PutLaws
+pub mod RunLaws
 pub mod ColumnLaws
 pub mod PartLaws
-pub mod RecordLaws
+pub mod WordsLaws
+pub mod RulesLaws
 pub mod RowLaws

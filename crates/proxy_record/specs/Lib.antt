@@ -1,5 +1,6 @@
 pub mod Entries
 pub mod State
-pub mod Record
+pub mod Words
+pub mod Rules
 pub mod Column
 pub mod Rows

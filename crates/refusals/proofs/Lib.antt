@@ -1,4 +1,3 @@
-pub mod RowLaws
 pub mod SetRows
 pub mod ProxyRows
 pub mod AssemblerRows

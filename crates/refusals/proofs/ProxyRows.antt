@@ -12,22 +12,25 @@ use lib.Signed.{ltZ, ltZ-yes, _<ℤ_}
 use mir.Syntax.{w64}
 use mir.Val.{SFits}
 use borrow.Author.Tests.{lt-ltb, le-ltb, eqb-true, eqb-false}
-use Rattle.sequence_number.specs.Outcome.{Outcome}
-use Rattle.sequence_number.specs.Outcome as outcome
+use Rattle.outcome.specs.Answers.{SetUpReply, ListReply}
+use Rattle.outcome.specs.Outcome.{Outcome, refused}
+use Rattle.outcome.specs.Row.{Row, verdict, Exactly, Refuses, shorter}
 use Rattle.sequence_number.specs.Number.{top, isNumber, natOf}
-use Rattle.sequence_number.proofs.Split.{split-lt, clash}
+use Rattle.outcome.proofs.Split.{split-lt, clash}
 use Rattle.sequence_number.proofs.NumberLaws.{end-top}
-use Rattle.proxy_record.specs.State.{State, freshState}
-use Rattle.proxy_record.specs.Record.{recordOf, stateOf, Good, size}
-use Rattle.proxy_core.proofs.StepLaws.{good-of}
-use Rattle.proxy_core.specs.Calls.{Reply, received, receivedAt, irrelevant, irrelevantAt, irrelevantRange, rangeAt}
-use Rattle.proxy_core.proofs.CallsLaws.{ok-fresh, received-accepted, irrelevant-accepted, range-accepted, received-refused-same, irrelevant-refused-same, range-refused-same}
-use Rattle.writer_proxy.specs.SetUp.{setUp, Begun}
-use Rattle.writer_proxy.specs.Missing.{missingOf, listed, After}
+use Rattle.proxy_record.specs.State.{Proxy, freshProxy}
+use Rattle.proxy_record.specs.Words.{proxyWords, proxyOf, proxySize}
+use Rattle.proxy_record.specs.Rules.{GoodProxy}
+use Rattle.proxy_record.proofs.RulesLaws.{ok-fresh, good-of}
+use Rattle.proxy_steps.specs.Steps.{ProxyReply}
+use Rattle.writer_proxy.specs.Calls.{received, receivedAt, irrelevant, irrelevantAt, irrelevantRange, rangeAt}
+use Rattle.writer_proxy.proofs.CallsLaws.{received-accepted, irrelevant-accepted, range-accepted, received-refused-same, irrelevant-refused-same, range-refused-same}
+use Rattle.writer_proxy.specs.SetUp.{setUpProxy}
+use Rattle.writer_proxy.specs.Missing.{missingNumbers, missingListed}
 use Rattle.writer_proxy.proofs.MissingLaws.{missing-refused-same}
 use Rattle.writer_proxy.proofs.SetUpLaws.{set-up-refused-same}
-use Rattle.refusals.specs.RefusalTable.{Row, Verdict, refused, Exactly, Refuses, verdict, notTaken, rangeRows, missingRows, shorter}
-use Rattle.refusals.proofs.RowLaws.{said-refused, said-accepted, none-left, asks, asks-not, asks-less}
+use Rattle.refusals.specs.RefusalTable.{notTaken, rangeRows, missingRows}
+use Rattle.outcome.proofs.RowLaws.{said-refused, said-accepted, none-left, asks, asks-not, asks-less}
 
 -- what is promised of a call that says so, and leaves so
 pub told-as : {A B : Type 0} {x y : Outcome A} {before after out : B} (rows : List Row) → Refuses (verdict x) rows (after ≡ before) → (y ≡ x) × (out ≡ after)
@@ -38,20 +41,20 @@ told-as rows h a =
       untouched = λ n z. a .1 ∙ h .untouched n (rw (a .0) at z);
     }
 
-abbrev pub replied : Reply → Verdict
-replied x = verdict (x .report)
+abbrev pub replied : ProxyReply → Outcome (Unit {0})
+replied x = verdict (x .answer)
 
 -- a call that goes on to its end has no row left
-ends : (x : Reply) → ((n : ℕ) → x .report ≡ outcome.refused n → ⊥) → Exactly (replied x) []
-ends x f = rw (said-accepted (x .report) f) none-left
+ends : (x : ProxyReply) → ((n : ℕ) → x .answer ≡ refused n → ⊥) → Exactly (replied x) []
+ends x f = rw (said-accepted (x .answer) f) none-left
 
 -- a call by the rows, which leaves the record where it is refused
-module _ (w : List ℕ) (g : Good w) (x : Reply) (rows : List Row) where
-  by-rows : Exactly (replied x) rows → ((n : ℕ) → x .report ≡ outcome.refused n → x .state ≡ stateOf w) → Refuses (replied x) rows (recordOf (x .state) ≡ w)
+module _ (w : List ℕ) (g : GoodProxy w) (x : ProxyReply) (rows : List Row) where
+  by-rows : Exactly (replied x) rows → ((n : ℕ) → x .answer ≡ refused n → x .state ≡ proxyOf w) → Refuses (replied x) rows (proxyWords (x .state) ≡ w)
   by-rows e same =
       record {
         exactly = e;
-        untouched = λ n z. ap recordOf (same n (said-refused (x .report) n z)) ∙ sym (g .made);
+        untouched = λ n z. ap proxyWords (same n (said-refused (x .answer) n z)) ∙ sym (g .made);
       }
 
 -- ---- tests
@@ -90,55 +93,55 @@ module _ (n : ℤ) (f : SFits w64 n) where
   pub row-fails : isNumber n ≡ true → notTaken n .condition → ⊥
   row-fails e h = clash (isNumber n) e (not-taken n f .1 h)
 
-module _ (w : List ℕ) (g : Good w) where
-  pub add-rows : (n : ℤ) (time : ℕ) → SFits w64 n → Refuses (replied (received n time (stateOf w))) (notTaken n ∷ []) (recordOf (received n time (stateOf w) .state) ≡ w)
+module _ (w : List ℕ) (g : GoodProxy w) where
+  pub add-rows : (n : ℤ) (time : ℕ) → SFits w64 n → Refuses (replied (received n time (proxyOf w))) (notTaken n ∷ []) (proxyWords (received n time (proxyOf w) .state) ≡ w)
   unfolding received
   add-rows n time f =
-      by-rows w g (received n time (stateOf w)) (notTaken n ∷ [])
+      by-rows w g (received n time (proxyOf w)) (notTaken n ∷ [])
       (asks-not replied refl (isNumber n) (row-holds n f) (row-fails n f)
-      (λ t. ends (receivedAt (natOf n) time (stateOf w)) (received-accepted (natOf n) time (stateOf w))))
-      (received-refused-same n (stateOf w) time)
+      (λ t. ends (receivedAt (natOf n) time (proxyOf w)) (received-accepted (natOf n) time (proxyOf w))))
+      (received-refused-same n (proxyOf w) time)
 
-  pub irrelevant-rows : (n : ℤ) → SFits w64 n → Refuses (replied (irrelevant n (stateOf w))) (notTaken n ∷ []) (recordOf (irrelevant n (stateOf w) .state) ≡ w)
+  pub irrelevant-rows : (n : ℤ) → SFits w64 n → Refuses (replied (irrelevant n (proxyOf w))) (notTaken n ∷ []) (proxyWords (irrelevant n (proxyOf w) .state) ≡ w)
   unfolding irrelevant
   irrelevant-rows n f =
-      by-rows w g (irrelevant n (stateOf w)) (notTaken n ∷ [])
+      by-rows w g (irrelevant n (proxyOf w)) (notTaken n ∷ [])
       (asks-not replied refl (isNumber n) (row-holds n f) (row-fails n f)
-      (λ t. ends (irrelevantAt (natOf n) (stateOf w)) (irrelevant-accepted (natOf n) (stateOf w))))
-      (irrelevant-refused-same n (stateOf w))
+      (λ t. ends (irrelevantAt (natOf n) (proxyOf w)) (irrelevant-accepted (natOf n) (proxyOf w))))
+      (irrelevant-refused-same n (proxyOf w))
 
-  pub range-rows : (a b : ℤ) → Refuses (replied (irrelevantRange a b (stateOf w))) (rangeRows a b) (recordOf (irrelevantRange a b (stateOf w) .state) ≡ w)
+  pub range-rows : (a b : ℤ) → Refuses (replied (irrelevantRange a b (proxyOf w))) (rangeRows a b) (proxyWords (irrelevantRange a b (proxyOf w) .state) ≡ w)
   unfolding irrelevantRange
   range-rows a b =
-      by-rows w g (irrelevantRange a b (stateOf w)) (rangeRows a b)
+      by-rows w g (irrelevantRange a b (proxyOf w)) (rangeRows a b)
       (asks replied refl (ltZ b a) (below-holds b a) (below-fails b a)
-      (λ e. ends (rangeAt (natOf a) (natOf b) (stateOf w)) (range-accepted (natOf a) (natOf b) (stateOf w))))
-      (range-refused-same a b (stateOf w))
+      (λ e. ends (rangeAt (natOf a) (natOf b) (proxyOf w)) (range-accepted (natOf a) (natOf b) (proxyOf w))))
+      (range-refused-same a b (proxyOf w))
 
 -- ---- the missing list
 
-module _ (start end : ℤ) (s : State) (out : List ℤ) where
-  pub missing-rows : Refuses (verdict (listed start end s out .answer)) (missingRows start end s out) (listed start end s out .output ≡ out)
-  unfolding listed
+module _ (start end : ℤ) (s : Proxy) (out : List ℤ) where
+  pub missing-rows : Refuses (verdict (missingListed start end s out .answer)) (missingRows start end s out) (missingListed start end s out .list ≡ out)
+  unfolding missingListed
   missing-rows =
-      let says : After → Verdict = λ x. verdict (x .answer) in
+      let says : (ListReply ℤ) → Outcome (Unit {0}) = λ x. verdict (x .answer) in
       record {
         exactly =
             asks says refl (eqb (natOf end) top)
             (λ e. end-top end .0 (eqb-true (natOf end) top e))
             (λ e h. eqb-false (natOf end) top e (end-top end .1 h))
-            (λ e. asks-less says refl (length out) (length (missingOf start end s)) (λ h. none-left));
-        untouched = λ n e. missing-refused-same start end s out n (said-refused (listed start end s out .answer) n e);
+            (λ e. asks-less says refl (length out) (length (missingNumbers start end s)) (λ h. none-left));
+        untouched = λ n e. missing-refused-same start end s out n (said-refused (missingListed start end s out .answer) n e);
       }
 
 -- ---- set-up
 
-pub set-up-rows : (w : List ℕ) → Refuses (verdict (setUp w .report)) (shorter w (recordOf freshState) ∷ []) (setUp w .words ≡ w)
-unfolding setUp
+pub set-up-rows : (w : List ℕ) → Refuses (verdict (setUpProxy w .answer)) (shorter w (proxyWords freshProxy) ∷ []) (setUpProxy w .words ≡ w)
+unfolding setUpProxy
 set-up-rows w =
-    let says : Begun → Verdict = λ x. verdict (x .report) in
-    let long : length (recordOf freshState) ≡ size = good-of (recordOf freshState) freshState ok-fresh refl .whole in
+    let says : SetUpReply → Outcome (Unit {0}) = λ x. verdict (x .answer) in
+    let long : length (proxyWords freshProxy) ≡ proxySize = good-of (proxyWords freshProxy) freshProxy ok-fresh refl .whole in
     record {
-      exactly = rw long (asks-less says refl (length w) size (λ h. none-left));
-      untouched = λ n e. set-up-refused-same w n (said-refused (setUp w .report) n e);
+      exactly = rw long (asks-less says refl (length w) proxySize (λ h. none-left));
+      untouched = λ n e. set-up-refused-same w n (said-refused (setUpProxy w .answer) n e);
     }

@@ -10,21 +10,22 @@ use lib.Dec.{T}
 use lib.IntN.{ℤ, pos, _+ℤ_}
 use lib.Signed.{ltZ-yes, ltZ-no, clashℤ}
 use borrow.Author.Tests.{ltb-true, ltb-false}
-use Rattle.sequence_number.specs.Outcome.{Outcome, refusal, found}
-use Rattle.sequence_number.specs.Kind.{Kind, sequence, fragment}
-use Rattle.number_set.specs.Bitmap.{positions}
+use Rattle.outcome.specs.Outcome.{Outcome, refusal, found}
+use Rattle.outcome.specs.Row.{Row, verdict, numbered, Exactly}
+use Rattle.sequence_number.specs.Kind.{Kind, sequenceNumber, fragmentNumber}
+use Rattle.bitmap.specs.Bitmap.{positions, anyPast}
 use Rattle.sequence_number.specs.Word.{wordAt}
 use Rattle.sequence_number.specs.NumberWire.{readNumber, writeNumber}
 use Rattle.number_set.specs.NumberSet.{NumberSet, members, setLength}
 use Rattle.number_set.specs.SetWire.{Taken, readSet, takenSet, setBytes, writeSet, measureSet}
-use Rattle.number_set.specs.Make.{rising, makeSet}
-use Rattle.number_set.specs.Walk.{walkSet, anyPast, inOrder}
+use Rattle.number_set.specs.Make.{isRising, makeSet}
+use Rattle.number_set.specs.Walk.{walkSet, inOrder}
 use Rattle.sequence_number.specs.declared.ByteOrder.{ByteOrder}
-use Rattle.sequence_number.proofs.Split.{split, both}
+use Rattle.outcome.proofs.Split.{split, both}
 use Rattle.sequence_number.proofs.KindLaws.{Lawful}
 use Rattle.number_set.proofs.SetWireLaws.{length-set-bytes}
-use Rattle.refusals.specs.RefusalTable.{Row, Verdict, Exactly, verdict, numbered, Alone, readNumberRows, writeNumberRows, readSetRows, walkRows, writeSetRows, measureSetRows, makeSetRows, StrictlyRising, ReadNumber, WriteNumber, ReadSet, WalkSet, WriteSet, MeasureSet, MakeSet, PastSequence, PastFragment}
-use Rattle.refusals.proofs.RowLaws.{none-left, asks, asks-not, asks-less, positive, as-number, by-number, left-refused}
+use Rattle.refusals.specs.RefusalTable.{Alone, readNumberRows, writeNumberRows, readSetRows, walkRows, writeSetRows, measureSetRows, makeSetRows, StrictlyRising, ReadNumber, WriteNumber, ReadSet, WalkSet, WriteSet, MeasureSet, MakeSet, PastSequence, PastFragment}
+use Rattle.outcome.proofs.RowLaws.{none-left, asks, asks-not, asks-less, positive, as-number, by-number, left-refused}
 
 -- ---- what is found, or why it is refused
 
@@ -37,7 +38,7 @@ module _ (k : Kind) where
 
   pub read-set-exactly : (o : ByteOrder) (s : List ℕ) → Exactly (verdict (readSet k o s)) (readSetRows k o s)
   read-set-exactly o s =
-      let reads : Outcome ℕ → Verdict = λ x. verdict (found (takenSet k o s) x) in
+      let reads : Outcome ℕ → Outcome (Unit {0}) = λ x. verdict (found (takenSet k o s) x) in
       let count : ℕ = wordAt o s (k .size) in
       asks-less reads refl (length s) (k .size + 4)
       (λ a. asks-less reads refl 256 count (λ b. asks-less reads refl (length s) (setLength (k .size) count) (λ c. none-left)))
@@ -54,20 +55,20 @@ module _ (k : Kind) (law : Lawful k) (o : ByteOrder) where
 -- ---- rising lists
 
 module _ (k : Kind) where
-  rises : (xs : List (k .Number)) → rising k xs ≡ true → StrictlyRising k xs
+  rises : (xs : List (k .Number)) → isRising k xs ≡ true → StrictlyRising k xs
   rises [] e i h = absurd (omega arith)
   rises (x ∷ []) e i h = absurd (omega arith)
-  rises (x ∷ y ∷ xs) e zero h = both (k .below x y) (rising k (y ∷ xs)) e .0
-  rises (x ∷ y ∷ xs) e (suc i) h = rises (y ∷ xs) (both (k .below x y) (rising k (y ∷ xs)) e .1) i (omega arith)
+  rises (x ∷ y ∷ xs) e zero h = both (k .below x y) (isRising k (y ∷ xs)) e .0
+  rises (x ∷ y ∷ xs) e (suc i) h = rises (y ∷ xs) (both (k .below x y) (isRising k (y ∷ xs)) e .1) i (omega arith)
 
-  risen : (xs : List (k .Number)) → StrictlyRising k xs → rising k xs ≡ true
+  risen : (xs : List (k .Number)) → StrictlyRising k xs → isRising k xs ≡ true
   risen [] f = refl
   risen (x ∷ []) f = refl
   risen (x ∷ y ∷ xs) f = rw (f 0 (omega arith)) (risen (y ∷ xs) (λ i h. f (suc i) (omega arith)))
 
   pub make-exactly : (base : k .Number) (xs : List (k .Number)) → Exactly (verdict (makeSet k base xs)) (makeSetRows k xs)
   make-exactly base xs =
-      asks-not verdict refl (rising k xs)
+      asks-not verdict refl (isRising k xs)
       (λ f s. let t = risen xs s in let z : _≡_ {A = ℕ} 0 1 = cc in omega arith)
       (λ t g. g (rises xs t))
       (λ t. none-left)
@@ -116,16 +117,16 @@ module _ (k : Kind) (Past : k .Number → Type 0) (over : (b : k .Number) (i : �
         untouched = λ m e. w .entries ∙ left-refused (walkSet k s (length out)) (inOrder up (members k s)) out m (rw (w .answer) at e);
       }
 
-pub sequence-over : (b : ℤ) (i : ℕ) → sequence .fits b i ≡ false → PastSequence (sequence .plus b i)
+pub sequence-over : (b : ℤ) (i : ℕ) → sequenceNumber .fits b i ≡ false → PastSequence (sequenceNumber .plus b i)
 sequence-over b i e = ltZ-no (subst (λ (t : Bool). T (not t)) (sym e) tt)
 
-pub sequence-within : (b : ℤ) (i : ℕ) → sequence .fits b i ≡ true → PastSequence (sequence .plus b i) → ⊥
+pub sequence-within : (b : ℤ) (i : ℕ) → sequenceNumber .fits b i ≡ true → PastSequence (sequenceNumber .plus b i) → ⊥
 sequence-within b i e h = clashℤ (ltZ-yes {a = b +ℤ pos i} {b = pos (2 ^ 63)} (subst T (sym e) tt)) h
 
-pub fragment-over : (b i : ℕ) → fragment .fits b i ≡ false → PastFragment (fragment .plus b i)
+pub fragment-over : (b i : ℕ) → fragmentNumber .fits b i ≡ false → PastFragment (fragmentNumber .plus b i)
 fragment-over b i e = ltb-false (b + i) (2 ^ 32) e
 
-pub fragment-within : (b i : ℕ) → fragment .fits b i ≡ true → PastFragment (fragment .plus b i) → ⊥
+pub fragment-within : (b i : ℕ) → fragmentNumber .fits b i ≡ true → PastFragment (fragmentNumber .plus b i) → ⊥
 fragment-within b i e h = let k : b + i < 2 ^ 32 = ltb-true (b + i) (2 ^ 32) e in omega arith
 
 -- ---- the calls

@@ -1,186 +1,221 @@
--- Laws of `specs/Feed.antt`: a byte's three ways, the walk over a piece, and what a caller's loop goes by. Assumes nothing.
-use Prim.Native.Nat.{ℕ, suc, _+_, _-_, _<_, _≤_}
+-- Laws of `specs/Feed.antt`: runs of bytes, a byte's two ways in the code, how much bytes say, the loop over a piece, and the end of the input. Assumes nothing.
+use Prim.Native.Nat.{ℕ, suc, _+_, _-_, _*_, _<_, _≤_}
 use mathlib.Core.Path.{_≡_, refl, sym, ap, subst, _∙_}
 use mathlib.Core.Logic.{⊎-elim}
-use mathlib.Core.List.{List, _++_, append-assoc, append-nil}
+use mathlib.Core.List.{List, [], _∷_, _++_, append-assoc, append-nil}
 use native.Mathlib.Omega.{arith}
 use native.Mathlib.Numerals.{add-one}
-use lib.ListN.{length, take, drop, getD, set, length-append, length-drop, take-append-drop, drop-of-length-le}
-use lib.Seq.{drop-cons, drop-drop, length-take-le, take-all, take-at, drop-at}
-use lib.Dec.{ltb}
+use lib.ListN.{length, take, drop, getD, length-append, length-drop, take-append-drop, drop-of-length-le}
+use lib.Seq.{drop-cons, drop-drop, drop-append-le, length-take-le, take-at, drop-at}
 use lib.IntN.{ℤ}
-use borrow.Author.Tests.{lt-ltb, le-ltb, eq-eqb, ne-eqb}
-use Rattle.sequence_number.specs.Lent.{over}
-use Rattle.sequence_number.specs.Outcome.{refused, done}
-use Rattle.sequence_number.proofs.Split.{split, split-lt}
-use Rattle.replay_lines.specs.Answer.{room, enough}
-use Rattle.replay_lines.specs.Feed.{kept, Run, lineDoes, took, says, Progress, onward, goOn, begin, tallyOf, fedOf, tallied, fed, runOf, Fed-to}
-use Rattle.replay_lines.specs.Inner.{Did, Stepped}
+use borrow.Author.Tests.{lt-ltb, eq-eqb, ne-eqb}
+use Rattle.outcome.specs.Lent.{over}
+use Rattle.outcome.specs.Outcome.{Outcome}
+use Rattle.outcome.proofs.Split.{split-eq}
+use Rattle.sequence_number.specs.Number.{top}
+use Rattle.line_text.specs.Held.{holding, heldLine, heldOn, heldThrough}
+use Rattle.line_text.specs.Lines.{NoFeed}
+use Rattle.line_text.specs.Decimal.{started}
+use Rattle.line_text.proofs.HeldLaws.{held-room, held-one, held-most}
+use Rattle.line_text.proofs.DecimalLaws.{length-one, length-most, length-head}
+use Rattle.proxy_record.specs.State.{Proxy}
+use Rattle.proxy_record.specs.Rules.{GoodProxy}
+use Rattle.proxy_record.specs.Words.{proxyOf}
+use Rattle.replay_lines.specs.Frame.{parsed}
+use Rattle.replay_lines.specs.Answer.{missingRoom, answerMost, stepOf, textOf, LineAnswered}
+use Rattle.replay_lines.specs.Feed.{heldRoom, Feeding, lineDoes, lineGoesOn, took, says, feeding, fedThrough, saidThrough, lacking, FedWith}
+use Rattle.replay_lines.specs.Inner.{Stepped, saidMost}
+use Rattle.replay_lines.specs.declared.frame.Frame.{Frame}
 use Rattle.replay_lines.specs.declared.feed.Held.{Held}
-use Rattle.replay_lines.specs.declared.feed.Fed.the-variants.{Refused, Took}
+use Rattle.replay_lines.proofs.FrameLaws.{parsed-length}
+
+-- Runs of bytes
+
+-- one run of bytes after another
+pub fed-append : (a b : List ℕ) (r : Feeding) → fedThrough (a ++ b) r ≡ fedThrough b (fedThrough a r)
+fed-append [] b r = refl
+fed-append (x ∷ a) b r = fed-append a b (took x r)
+
+pub said-append : (a b : List ℕ) (r : Feeding) → saidThrough (a ++ b) r ≡ saidThrough a r ++ saidThrough b (fedThrough a r)
+said-append [] b r = refl
+said-append (x ∷ a) b r = ap (λ (l : List ℕ). says x r ++ l) (said-append a b (took x r)) ∙ sym (append-assoc (says x r) (saidThrough a (took x r)) (saidThrough b (fedThrough a (took x r))))
+
+-- a byte that is no line feed
+byte-goes-on : (b : ℕ) → (b ≡ 10 → ⊥) → (r : Feeding) → (says b r ≡ []) × (took b r ≡ lineGoesOn b r)
+unfolding took says
+byte-goes-on b e r = rw (ne-eqb b 10 e) (refl, refl)
+
+-- a line so far: nothing is said, and its bytes are held
+pub line-goes-on : (line : List ℕ) → NoFeed line → (r : Feeding)
+    → (saidThrough line r ≡ []) × (fedThrough line r ≡ record { words = r .words; list = r .list; held = heldThrough line (r .held) })
+line-goes-on [] n r = (refl, refl)
+line-goes-on (b ∷ line) n r =
+    let e = byte-goes-on b (n .0) r in
+    let t = line-goes-on line (n .1) (lineGoesOn b r) in
+    ((λ i. e .0 i ++ saidThrough line (e .1 i)) ∙ t .0, ap (fedThrough line) (e .1) ∙ t .1)
+
+-- no byte changes how many can be held
+took-held : (b : ℕ) (r : Feeding) → length (took b r .held .bytes) ≡ length (r .held .bytes)
+unfolding took
+took-held b r = ⊎-elim (λ e. rw (eq-eqb b 10 e)) (λ e. rw (ne-eqb b 10 e) (held-room b (r .held))) (split-eq b 10)
+
+pub fed-held : (bytes : List ℕ) (r : Feeding) → length (fedThrough bytes r .held .bytes) ≡ length (r .held .bytes)
+fed-held [] r = refl
+fed-held (b ∷ bytes) r = fed-held bytes (took b r) ∙ took-held b r
 
 -- A byte
 
 module _ (words : List ℕ) (list : List ℤ) (held : List ℕ) (count b : ℕ) (out : List ℕ) where
-  pub step-ends : (n : ℕ) (words′ : List ℕ) (list′ : List ℤ) (out′ : List ℕ) → b ≡ 10 → Did n words′ list′ out out′ (lineDoes (runOf words list held count))
-      → Stepped (record { count = 0; wrote = n }) words′ list′ held out out′ b (runOf words list held count)
+  pub step-ends : (n : ℕ) (words′ : List ℕ) (list′ : List ℤ) (out′ : List ℕ) → b ≡ 10 → LineAnswered n words′ list′ out out′ (lineDoes (feeding words list held count))
+      → Stepped (record { count = 0; wrote = n }) words′ list′ held out out′ b (feeding words list held count)
   unfolding took says
   step-ends n words′ list′ out′ e d = record {
-    run-is = rw (eq-eqb b 10 e) (λ i. runOf (d .words-are i) (d .list-is i) held 0);
+    fed-is = rw (eq-eqb b 10 e) (λ i. feeding (d .words-are i) (d .list-is i) held 0);
     out-is = rw (eq-eqb b 10 e) (d .wrote .line);
     wrote-is = rw (eq-eqb b 10 e) (d .wrote .count);
   }
 
-  pub step-holds : (b ≡ 10 → ⊥) → count < kept → Stepped (record { count = count + 1; wrote = 0 }) words list (set held count b) out out b (runOf words list held count)
+  pub step-goes-on : (held′ : List ℕ) (n : ℕ) → (b ≡ 10 → ⊥) → holding held′ n ≡ heldOn b (holding held count)
+      → Stepped (record { count = n; wrote = 0 }) words list held′ out out b (feeding words list held count)
   unfolding took says
-  step-holds e h = record {
-    run-is = rw (ne-eqb b 10 e, lt-ltb count kept h) (ap (runOf words list (set held count b)) (add-one count));
+  step-goes-on held′ n e h = record {
+    fed-is = rw (ne-eqb b 10 e) (λ i. record { words = words; list = list; held = h i });
     out-is = rw (ne-eqb b 10 e);
     wrote-is = rw (ne-eqb b 10 e);
   }
 
-  pub step-passes : (b ≡ 10 → ⊥) → kept ≤ count → Stepped (record { count = count; wrote = 0 }) words list held out out b (runOf words list held count)
-  unfolding took says
-  step-passes e h = record {
-    run-is = rw (ne-eqb b 10 e, le-ltb count kept h);
-    out-is = rw (ne-eqb b 10 e);
-    wrote-is = rw (ne-eqb b 10 e);
-  }
+-- How much is said
+
+-- a line that has not the length of one that reads is answered shortly
+text-short : (line : List ℕ) (s : Proxy) (list : List ℤ) → s .base ≤ top → (length line ≡ 34 → ⊥) → length (textOf (stepOf (parsed line) s list)) ≤ 148
+unfolding stepOf
+text-short line s list h n =
+    subst (λ (p : Outcome Frame). length (textOf (stepOf p s list)) ≤ 148) (parsed-length line n)
+    (omega (arith, length-append (started 0 (1 ∷ s .base ∷ [])) (10 ∷ []), length-head 0 1 (s .base), length-one 0 (omega arith), length-one 1 (omega arith), length-most 18 (s .base) (omega arith)))
+
+-- a byte says no more than 148 for each byte that it takes from those held
+byte-says : (b : ℕ) (r : Feeding) → GoodProxy (r .words) → length (says b r) ≤ answerMost
+    → length (says b r) + 148 * length (heldLine (took b r .held)) ≤ 148 * suc (length (heldLine (r .held)))
+unfolding took says
+byte-says b r g =
+    ⊎-elim
+    (λ e. rw (eq-eqb b 10 e) (λ h.
+    ⊎-elim (λ n. omega arith)
+    (λ n. omega (arith, text-short (heldLine (r .held)) (proxyOf (r .words)) (r .list) (g .ok .high) n))
+    (split-eq (length (heldLine (r .held))) 34)))
+    (λ e. rw (ne-eqb b 10 e) (λ h. omega (arith, held-one b (r .held))))
+    (split-eq b 10)
 
 -- what is said fits where it was written
-pub says-fit : (t rest part : List ℕ) → part ≡ over t rest → length part ≡ length rest → length t ≤ length rest
+says-fit : (t rest part : List ℕ) → part ≡ over t rest → length part ≡ length rest → length t ≤ length rest
 says-fit t rest part e h = omega (arith, ap length e, length-append t (drop (length t) rest), length-drop (length t) rest)
 
 -- A piece
 
--- the part of the buffer that is lent for an answer, and what is left past it
-pub part-whole : (out : List ℕ) (wrote : ℕ) → take (length out - wrote) (drop wrote out) ≡ drop wrote out
-part-whole out wrote = take-all (length out - wrote) (drop wrote out) (omega (arith, length-drop wrote out))
+-- a part of the buffer that is lent for an answer, back in the buffer
+over-part : (t x : List ℕ) (m : ℕ) → length t ≤ m → m ≤ length x → over t (take m x) ++ drop m x ≡ over t x
+over-part t x m h k =
+    append-assoc t (drop (length t) (take m x)) (drop m x)
+    ∙ ap (λ (l : List ℕ). t ++ l) (sym (drop-append-le (length t) (take m x) (drop m x) (omega (arith, length-take-le m x k))) ∙ ap (drop (length t)) (take-append-drop m x))
 
-pub part-back : (out part : List ℕ) (wrote : ℕ) → take wrote out ++ (part ++ drop (length out - wrote) (drop wrote out)) ≡ take wrote out ++ part
-part-back out part wrote =
-    ap (λ (l : List ℕ). take wrote out ++ (part ++ l)) (drop-of-length-le (drop wrote out) {i = length out - wrote} (omega (arith, length-drop wrote out)))
-    ∙ ap (λ (l : List ℕ). take wrote out ++ l) (append-nil part)
+-- where the loop over a piece is
+pub record Going (r₀ : Feeding) (piece out₀ : List ℕ) (i : ℕ) (words : List ℕ) (list : List ℤ) (held : List ℕ) (n wrote : ℕ) (out : List ℕ) : Type 0 where
+  pub within : i ≤ length piece
+  pub good : GoodProxy words
+  pub list-long : missingRoom ≤ length list
+  pub out-whole : length out ≡ length out₀
+  pub past : drop wrote out ≡ drop wrote out₀
+  pub few : wrote + 148 * length (take n held) ≤ 148 * (i + heldRoom)
+  pub run : fedThrough (drop i piece) (feeding words list held n) ≡ fedThrough piece r₀
+  pub said : take wrote out ++ saidThrough (drop i piece) (feeding words list held n) ≡ saidThrough piece r₀
 
--- how far the loop is, in its own words
-abbrev pub reached : ℕ → List ℕ → List ℤ → List ℕ → ℕ → ℕ → List ℕ → Progress
-reached i words list held n wrote out = record { taken = i; run = runOf words list held n; text = take wrote out }
+module _ (r₀ : Feeding) (piece out₀ : List ℕ) (enough-out : saidMost (length piece) ≤ length out₀) where
+  pub going-first : (words : List ℕ) (list : List ℤ) (held : List ℕ) (count : ℕ) → r₀ ≡ feeding words list held count → GoodProxy words → missingRoom ≤ length list → length held ≡ heldRoom
+      → Going r₀ piece out₀ 0 words list held count 0 out₀
+  going-first words list held count e g a b = record {
+    within = omega arith;
+    good = g;
+    list-long = a;
+    out-whole = refl;
+    past = refl;
+    few = omega (arith, held-most (holding held count));
+    run = ap (fedThrough piece) (sym e);
+    said = ap (saidThrough piece) (sym e);
+  }
 
-module _ (size : ℕ) (piece : List ℕ) (i : ℕ) where
-  pub walk-ends : (x : Progress) → i ≡ length piece → goOn size (drop i piece) x ≡ x
-  unfolding goOn
-  walk-ends x e = ap (λ (l : List ℕ). goOn size l x) (drop-of-length-le piece {i = i} (omega arith))
+  module _ (i : ℕ) (words : List ℕ) (list : List ℤ) (held : List ℕ) (n wrote : ℕ) (out : List ℕ) (g : Going r₀ piece out₀ i words list held n wrote out) where
+    -- the loop's end
+    pub going-last : i ≡ length piece → FedWith n wrote words list held out₀ out piece r₀
+    going-last e =
+        let d : drop i piece ≡ [] = drop-of-length-le piece {i = i} (omega arith) in
+        let w : wrote ≤ length out = omega (arith, g .few, g .out-whole) in
+        let t : take wrote out ≡ saidThrough piece r₀ = sym (append-nil (take wrote out)) ∙ ap (λ (l : List ℕ). take wrote out ++ saidThrough l (feeding words list held n)) (sym d) ∙ g .said in
+        record {
+          fed-is = ap (λ (l : List ℕ). fedThrough l (feeding words list held n)) (sym d) ∙ g .run;
+          out-is =
+              sym (take-append-drop wrote out) ∙ (λ j. t j ++ (g .past ∙ ap (λ (k : ℕ). drop k out₀) (sym (length-take-le wrote out w) ∙ ap length t)) j);
+          wrote-is = sym (length-take-le wrote out w) ∙ ap length t;
+        }
 
-  pub walk-stops : (x : Progress) → i < length piece → size - length (x .text) < enough → goOn size (drop i piece) x ≡ x
-  unfolding goOn
-  walk-stops x h e = rw (drop-cons piece i 0 h, lt-ltb (size - length (x .text)) enough e)
+    pub room-left : i < length piece → wrote + answerMost ≤ length out
+    room-left h = omega (arith, g .few, g .out-whole)
 
-  walk-on : (x : Progress) → i < length piece → enough ≤ size - length (x .text) → goOn size (drop i piece) x ≡ goOn size (drop (suc i) piece) (onward (getD piece i 0) x)
-  unfolding goOn
-  walk-on x h e = rw (drop-cons piece i 0 h, le-ltb (size - length (x .text)) enough e)
+    -- one byte more
+    pub going-on : (h : i < length piece) (words′ : List ℕ) (list′ : List ℤ) (held′ part : List ℕ) (s : Held)
+        → length part ≡ length (take ((wrote + answerMost) - wrote) (drop wrote out)) → length list′ ≡ length list → GoodProxy words′
+        → Stepped s words′ list′ held′ (take ((wrote + answerMost) - wrote) (drop wrote out)) part (getD piece i 0) (feeding words list held n)
+        → (wrote + s .wrote ≤ length out) × Going r₀ piece out₀ (i + 1) words′ list′ held′ (s .count) (wrote + s .wrote) (take wrote out ++ (part ++ drop ((wrote + answerMost) - wrote) (drop wrote out)))
+    going-on h words′ list′ held′ part s k lk good st =
+        let b = getD piece i 0 in
+        let r = feeding words list held n in
+        let t = says b r in
+        let m = (wrote + answerMost) - wrote in
+        let x = drop wrote out in
+        let left : wrote + answerMost ≤ length out = room-left h in
+        let m-is : m ≡ answerMost = omega arith in
+        let lx : length x ≡ length out - wrote = length-drop wrote out in
+        let lm : length (take m x) ≡ m = length-take-le m x (omega arith) in
+        let fits : length t ≤ answerMost = omega (arith, says-fit t (take m x) part (st .out-is) k) in
+        let back : part ++ drop m x ≡ over t x = ap (λ (l : List ℕ). l ++ drop m x) (st .out-is) ∙ over-part t x m (omega arith) (omega arith) in
+        let a = take wrote out in
+        let la : length a ≡ wrote = length-take-le wrote out (omega arith) in
+        let rest = drop (length t) x in
+        let w : length (a ++ t) ≡ wrote + s .wrote = omega (arith, length-append a t, st .wrote-is) in
+        let whole : a ++ (part ++ drop m x) ≡ (a ++ t) ++ rest = ap (λ (l : List ℕ). a ++ l) back ∙ sym (append-assoc a t rest) in
+        let front : take (wrote + s .wrote) (a ++ (part ++ drop m x)) ≡ a ++ t = ap (take (wrote + s .wrote)) whole ∙ take-at (a ++ t) rest (wrote + s .wrote) w in
+        let c : drop i piece ≡ b ∷ drop (i + 1) piece = drop-cons piece i 0 h ∙ ap (λ (j : ℕ). b ∷ drop j piece) (sym (add-one i)) in
+        let counted : length (take (s .count) held′) ≡ length (heldLine (took b r .held)) = ap (λ (y : Feeding). length (heldLine (y .held))) (st .fed-is) in (
+          omega (arith, st .wrote-is),
+          record {
+            within = omega arith;
+            good = good;
+            list-long = omega (arith, g .list-long);
+            out-whole = ap length whole ∙ length-append (a ++ t) rest ∙ omega (arith, w, length-drop (length t) x, st .wrote-is, g .out-whole);
+            past =
+                ap (drop (wrote + s .wrote)) whole ∙ drop-at (a ++ t) rest (wrote + s .wrote) w ∙ ap (drop (length t)) (g .past) ∙ drop-drop (length t) wrote out₀
+                ∙ ap (λ (j : ℕ). drop (wrote + j) out₀) (sym (st .wrote-is));
+            few = omega (arith, g .few, counted, st .wrote-is, byte-says b r (g .good) fits);
+            run = ap (fedThrough (drop (i + 1) piece)) (st .fed-is) ∙ ap (λ (l : List ℕ). fedThrough l r) (sym c) ∙ g .run;
+            said =
+                (λ j. front j ++ saidThrough (drop (i + 1) piece) (st .fed-is j)) ∙ append-assoc a t (saidThrough (drop (i + 1) piece) (took b r))
+                ∙ ap (λ (l : List ℕ). a ++ saidThrough l r) (sym c) ∙ g .said;
+          },
+        )
 
-  -- one byte more
-  pub walk-goes-on : (words words′ : List ℕ) (list list′ : List ℤ) (held held′ : List ℕ) (n wrote : ℕ) (out part : List ℕ) (r : Held)
-      → i < length piece → enough ≤ size - wrote → wrote ≤ length out → Stepped r words′ list′ held′ (drop wrote out) part (getD piece i 0) (runOf words list held n)
-      → goOn size (drop i piece) (reached i words list held n wrote out) ≡ goOn size (drop (i + 1) piece) (reached (i + 1) words′ list′ held′ (r .count) (wrote + r .wrote) (take wrote out ++ part))
-  walk-goes-on words words′ list list′ held held′ n wrote out part r h e f s =
-      let x = runOf words list held n in
-      let t = says (getD piece i 0) x in
-      let a = take wrote out in
-      let la : length a ≡ wrote = length-take-le wrote out f in
-      let rest = drop (length t) (drop wrote out) in
-      let w : take (wrote + r .wrote) (a ++ part) ≡ a ++ t =
-      ap (λ (l : List ℕ). take (wrote + r .wrote) (a ++ l)) (s .out-is) ∙ ap (take (wrote + r .wrote)) (sym (append-assoc a t rest)) ∙ take-at (a ++ t) rest (wrote + r .wrote) (omega (arith, length-append a t, s .wrote-is)) in
-      walk-on (reached i words list held n wrote out) h (omega (arith, la))
-      ∙ (λ j. goOn size (drop (sym (add-one i) j) piece) (record { taken = sym (add-one i) j; run = sym (s .run-is) j; text = sym w j }))
+-- The end of the input
 
--- the rest of the buffer keeps its bytes
-pub rest-kept : (out₀ out part t : List ℕ) (wrote w : ℕ) → wrote ≤ length out → drop wrote out ≡ drop wrote out₀ → part ≡ over t (drop wrote out) → w ≡ length t
-    → drop (wrote + w) (take wrote out ++ part) ≡ drop (wrote + w) out₀
-rest-kept out₀ out part t wrote w f d p e =
-    let a = take wrote out in
-    let rest = drop (length t) (drop wrote out) in
-    let la : length a ≡ wrote = length-take-le wrote out f in
-    ap (λ (l : List ℕ). drop (wrote + w) (a ++ l)) p ∙ ap (drop (wrote + w)) (sym (append-assoc a t rest))
-    ∙ drop-at (a ++ t) rest (wrote + w) (omega (arith, length-append a t))
-    ∙ ap (drop (length t)) d ∙ drop-drop (length t) wrote out₀ ∙ ap (λ (k : ℕ). drop (wrote + k) out₀) (sym e)
+module _ (words : List ℕ) (list : List ℤ) (held : List ℕ) (count : ℕ) (out : List ℕ) where
+  pub closed-none : count ≡ 0 → FedWith 0 0 words list held out out (lacking (feeding words list held count)) (feeding words list held count)
+  closed-none e = rw e (record { fed-is = refl; out-is = refl; wrote-is = refl })
 
--- the loop after a byte
-module _ (piece out₀ : List ℕ) (i : ℕ) (words words′ : List ℕ) (list list′ : List ℤ) (held held′ : List ℕ) (n wrote : ℕ) (out part : List ℕ) (r : Held)
-    (f : wrote ≤ length out) (g : length out ≡ length out₀) (k : length part ≡ length (take (length out - wrote) (drop wrote out)))
-    (s : Stepped r words′ list′ held′ (take (length out - wrote) (drop wrote out)) part (getD piece i 0) (runOf words list held n))
-    (d : drop wrote out ≡ drop wrote out₀) (h : i < length piece) (e : enough ≤ length out - wrote) where
-  stepped : Stepped r words′ list′ held′ (drop wrote out) part (getD piece i 0) (runOf words list held n)
-  stepped = rw (part-whole out wrote) at s
-
-  kept-length : length part ≡ length (drop wrote out)
-  kept-length = k ∙ ap length (part-whole out wrote)
-
-  pub byte-taken : (wrote + r .wrote ≤ length out)
-      × (length (take wrote out ++ (part ++ drop (length out - wrote) (drop wrote out))) ≡ length out₀)
-      × (drop (wrote + r .wrote) (take wrote out ++ (part ++ drop (length out - wrote) (drop wrote out))) ≡ drop (wrote + r .wrote) out₀)
-      × (goOn (length out₀) (drop i piece) (reached i words list held n wrote out)
-      ≡ goOn (length out₀) (drop (i + 1) piece) (reached (i + 1) words′ list′ held′ (r .count) (wrote + r .wrote) (take wrote out ++ (part ++ drop (length out - wrote) (drop wrote out)))))
-  byte-taken =
-      let t = says (getD piece i 0) (runOf words list held n) in
-      rw (part-back out part wrote) (
-        omega (arith, length-drop wrote out, says-fit t (drop wrote out) part (stepped .out-is) kept-length, stepped .wrote-is),
-        omega (arith, length-append (take wrote out) part, length-take-le wrote out f, length-drop wrote out, kept-length),
-        rest-kept out₀ out part t wrote (r .wrote) f d (stepped .out-is) (stepped .wrote-is),
-        walk-goes-on (length out₀) piece i words words′ list list′ held held′ n wrote out part r h (omega (arith, g)) f stepped,
-      )
-
--- what was written, over what was there
-out-over : (out₀ out : List ℕ) (wrote : ℕ) → wrote ≤ length out → drop wrote out ≡ drop wrote out₀ → out ≡ over (take wrote out) out₀
-out-over out₀ out wrote f d =
-    sym (take-append-drop wrote out) ∙ ap (λ (l : List ℕ). take wrote out ++ l) (d ∙ ap (λ (k : ℕ). drop k out₀) (sym (length-take-le wrote out f)))
-
-fed-done : (r : Run) (piece out : List ℕ) → room ≤ length (r .list) → kept ≤ length (r .held) → r .count ≤ kept → enough ≤ length out
-    → tallied (goOn (length out) piece (begin r)) out ≡ fed r piece out
-unfolding fed
-fed-done r piece out a d e f = rw (le-ltb (length (r .list)) room a, le-ltb (length (r .held)) kept d, le-ltb kept (r .count) e, le-ltb (length out) enough f)
-
--- the end of the loop
-pub piece-taken : (r : Run) (piece out₀ : List ℕ) (i : ℕ) (words : List ℕ) (list : List ℤ) (held : List ℕ) (n wrote : ℕ) (out : List ℕ)
-    → room ≤ length (r .list) → kept ≤ length (r .held) → r .count ≤ kept → enough ≤ length out₀
-    → wrote ≤ length out → drop wrote out ≡ drop wrote out₀ → goOn (length out₀) piece (begin r) ≡ reached i words list held n wrote out
-    → Fed-to (Took i n wrote) words list held out (fed r piece out₀)
-piece-taken r piece out₀ i words list held n wrote out a d e f g k p =
-    let x = reached i words list held n wrote out in
-    subst (λ (y : _). Fed-to (Took i n wrote) words list held out y)
-    (ap (λ (y : Progress). tallied y out₀) (sym p) ∙ fed-done r piece out₀ a d e f)
-    (record { answer-is = ap (λ (k : ℕ). done (tallyOf i n k)) (sym (length-take-le wrote out g)); words-are = refl; list-is = refl; held-are = refl; out-is = out-over out₀ out wrote g k })
-
--- a buffer that had room is not full before the first byte
-pub further : (i wrote size : ℕ) → (i ≡ 0 → wrote ≡ 0) → enough ≤ size → size - wrote < enough → 0 < i
-further i wrote size z f h = ⊎-elim (λ p. p) (λ q. let e : wrote ≡ 0 = z (omega arith) in absurd (omega arith)) (split-lt 0 i)
-
--- a piece that was not refused
-pub fed-took : (r : Run) (piece out : List ℕ) (taken count wrote : ℕ) → fedOf (Took taken count wrote) ≡ fed r piece out .answer → fed r piece out ≡ tallied (goOn (length out) piece (begin r)) out
-unfolding fed
-fed-took r piece out taken count wrote e =
-    split (ltb (length (r .list)) room) (λ a. absurd (not-refused (rw a at e)))
-    (λ a. split (ltb (length (r .held)) kept) (λ d. absurd (not-refused (rw (a, d) at e)))
-    (λ d. split (ltb kept (r .count)) (λ f. absurd (not-refused (rw (a, d, f) at e)))
-    (λ f. split (ltb (length out) enough) (λ g. absurd (not-refused (rw (a, d, f, g) at e))) (λ g. rw (a, d, f, g)))))
-  where
-    not-refused : done (tallyOf taken count wrote) ≡ refused 3 → ⊥
-    not-refused z = let w : _≡_ {A = ℕ} 0 1 = cc in omega arith
-
--- the refusals
-module _ (r : Run) (piece out : List ℕ) where
-  pub fed-no-list : length (r .list) < room → Fed-to (Refused 3) (r .words) (r .list) (r .held) out (fed r piece out)
-  unfolding fed
-  fed-no-list a = rw (lt-ltb (length (r .list)) room a) (record { answer-is = refl; words-are = refl; list-is = refl; held-are = refl; out-is = refl })
-
-  pub fed-no-held : room ≤ length (r .list) → length (r .held) < kept → Fed-to (Refused 3) (r .words) (r .list) (r .held) out (fed r piece out)
-  unfolding fed
-  fed-no-held a d = rw (le-ltb (length (r .list)) room a, lt-ltb (length (r .held)) kept d) (record { answer-is = refl; words-are = refl; list-is = refl; held-are = refl; out-is = refl })
-
-  pub fed-no-count : room ≤ length (r .list) → kept ≤ length (r .held) → kept < r .count → Fed-to (Refused 3) (r .words) (r .list) (r .held) out (fed r piece out)
-  unfolding fed
-  fed-no-count a d e = rw (le-ltb (length (r .list)) room a, le-ltb (length (r .held)) kept d, lt-ltb kept (r .count) e) (record { answer-is = refl; words-are = refl; list-is = refl; held-are = refl; out-is = refl })
-
-  pub fed-no-room : room ≤ length (r .list) → kept ≤ length (r .held) → r .count ≤ kept → length out < enough → Fed-to (Refused 3) (r .words) (r .list) (r .held) out (fed r piece out)
-  unfolding fed
-  fed-no-room a d e f = rw (le-ltb (length (r .list)) room a, le-ltb (length (r .held)) kept d, le-ltb kept (r .count) e, lt-ltb (length out) enough f) (record { answer-is = refl; words-are = refl; list-is = refl; held-are = refl; out-is = refl })
+  pub closed-line : (n : ℕ) (words′ : List ℕ) (list′ : List ℤ) (out′ : List ℕ) → (count ≡ 0 → ⊥) → LineAnswered n words′ list′ out out′ (lineDoes (feeding words list held count))
+      → FedWith 0 n words′ list′ held out out′ (lacking (feeding words list held count)) (feeding words list held count)
+  unfolding took says
+  closed-line n words′ list′ out′ e d =
+      let t = textOf (lineDoes (feeding words list held count)) in
+      rw (lt-ltb 0 count (omega arith))
+      (record {
+        fed-is = λ i. feeding (d .words-are i) (d .list-is i) held 0;
+        out-is = d .wrote .line ∙ ap (λ (l : List ℕ). over l out) (sym (append-nil t));
+        wrote-is = d .wrote .count ∙ ap length (sym (append-nil t));
+      })

@@ -10,10 +10,10 @@ use mir.Syntax.{w64}
 use mir.Val.{Fits, ofZ, toZ}
 use mir.Facts.{ofZ-toZ}
 use borrow.Author.Tests.{eq-eqb, ne-eqb}
-use Rattle.sequence_number.specs.Outcome.{refused}
-use Rattle.sequence_number.proofs.Split.{split, split-eq}
-use Rattle.replay_lines.specs.Hex.{allHex, valueAt}
-use Rattle.replay_lines.specs.Frame.{readOf, frameOf, parsed}
+use Rattle.outcome.specs.Outcome.{refused}
+use Rattle.outcome.proofs.Split.{split, split-eq}
+use Rattle.line_text.specs.Hex.{allHex, valueAt}
+use Rattle.replay_lines.specs.Frame.{parsedSaid, frameOf, parsed}
 use Rattle.replay_lines.specs.declared.frame.Frame.the-variants.{Received, Range, Missing}
 use Rattle.replay_lines.specs.declared.frame.Parsed.{Parsed}
 use Rattle.replay_lines.specs.declared.frame.Parsed.the-variants.{Malformed, Reads}
@@ -48,12 +48,12 @@ module _ (line : List ℕ) where
   unfolding parsed
   parsed-digit n a = rw (eq-eqb (length line) 34 n, a)
 
-  pub parsed-frame : length line ≡ 34 → allHex line ≡ true → readOf (frameOf (valueAt line 0 2) (valueAt line 2 16) (valueAt line 18 16)) ≡ parsed line
+  pub parsed-frame : length line ≡ 34 → allHex line ≡ true → parsedSaid (frameOf (valueAt line 0 2) (valueAt line 2 16) (valueAt line 18 16)) ≡ parsed line
   unfolding parsed
   parsed-frame n a = rw (eq-eqb (length line) 34 n, a)
 
   -- every line is read as some answer of the code
-  pub parsed-as : (p : Parsed) × (readOf p ≡ parsed line)
+  pub parsed-as : (p : Parsed) × (parsedSaid p ≡ parsed line)
   parsed-as =
       ⊎-elim (λ n. split (allHex line) (λ a. (frameOf (valueAt line 0 2) (valueAt line 2 16) (valueAt line 18 16), parsed-frame n a)) (λ a. (Malformed, parsed-digit n a)))
       (λ n. (Malformed, parsed-length n))

@@ -8,22 +8,23 @@ use lib.ListN.{length}
 use lib.Dec.{eqb}
 use lib.IntN.{ℤ}
 use borrow.Author.Tests.{eqb-false}
-use Rattle.sequence_number.proofs.Split.{split}
-use Rattle.proxy_record.specs.State.{freshState}
-use Rattle.proxy_record.specs.Record.{recordOf}
-use Rattle.proxy_record.proofs.RecordLaws.{good-is}
-use Rattle.proxy_record.specs.Entries.{below, from, putIn, runLen}
-use Rattle.proxy_core.specs.Calls.{noted, moveOn, discard, settled, capped, ended, receivedAt, received, without, skipped, putEach, rangeAt, irrelevantRange}
-use Rattle.proxy_core.proofs.CallsLaws.{ok-fresh}
-use Rattle.writer_proxy.specs.Queries.{look}
-use Rattle.writer_proxy.specs.Missing.{missing, listed}
+use Rattle.outcome.proofs.Split.{split}
+use Rattle.proxy_record.specs.State.{freshProxy}
+use Rattle.proxy_record.specs.Words.{proxyWords}
+use Rattle.proxy_record.proofs.WordsLaws.{good-is}
+use Rattle.proxy_record.specs.Entries.{below, from, putIn, runLen, look}
+use Rattle.proxy_record.proofs.RulesLaws.{ok-fresh}
+use Rattle.proxy_steps.specs.Steps.{noted, moveOn, discard, followed, capped, endedProxy, without, skipped, putEach}
+use Rattle.writer_proxy.specs.Calls.{receivedAt, received, rangeAt, irrelevantRange}
+use Rattle.writer_proxy.specs.Missing.{untrackedFrom, missingListed}
 use Rattle.writer_proxy.proofs.Promises.{record-reads-back}
-use Rattle.replay_lines.specs.Hex.{digitOf, allHex, valueAt}
+use Rattle.line_text.specs.Lines.{NoFeed, Lines, recorded}
+use Rattle.line_text.specs.Hex.{digitOf, allHex, valueAt}
 use Rattle.replay_lines.specs.Frame.{frameOf, parsed}
-use Rattle.replay_lines.specs.Decimal.{digitsWithin, digits, spaced}
-use Rattle.replay_lines.specs.Answer.{room, stepOf}
-use Rattle.replay_lines.specs.Feed.{kept, Run, runOf}
-use Rattle.replay_lines.specs.Replay.{blank, replayed, said, NoFeed, Ready, Lines, recorded, Calls}
+use Rattle.line_text.specs.Decimal.{digitsWithin, digits, spaced}
+use Rattle.replay_lines.specs.Answer.{missingRoom, stepOf}
+use Rattle.replay_lines.specs.Feed.{heldRoom, Feeding, feeding, saidThrough}
+use Rattle.replay_lines.specs.Replay.{blankList, replayed, BetweenLines, FeedCalls}
 use Rattle.replay_lines.proofs.Promises.{recording-said, calls-said}
 
 -- 010000000000000001000000000000000A
@@ -53,8 +54,8 @@ answers = 49 ∷ 32 ∷ 48 ∷ 32 ∷ 50 ∷ 10 ∷ 49 ∷ 32 ∷ 48 ∷ 32 ∷ 
 abbrev pub example : List (List ℕ)
 example = first ∷ second ∷ third ∷ fourth ∷ fifth ∷ []
 
-pub example-replayed : replayed example freshState ≡ answers
-unfolding first second third fourth fifth answers replayed blank stepOf parsed frameOf allHex digitOf valueAt digits digitsWithin spaced received receivedAt noted settled moveOn discard ended capped irrelevantRange rangeAt skipped without putEach listed missing look below from putIn runLen
+pub example-replayed : replayed example freshProxy ≡ answers
+unfolding first second third fourth fifth answers replayed blankList stepOf parsed frameOf allHex digitOf valueAt digits digitsWithin spaced received receivedAt noted followed moveOn discard endedProxy capped irrelevantRange rangeAt skipped without putEach missingListed untrackedFrom look below from putIn runLen
 example-replayed = refl
 
 -- whether no byte is a line feed
@@ -74,16 +75,16 @@ unfolding first second third fourth fifth
 example-lines = (no-feed first refl, (no-feed second refl, (no-feed third refl, (no-feed fourth refl, (no-feed fifth refl, tt)))))
 
 -- from a fresh proxy on, where nothing is held, with any list and any place to hold a line that are long enough
-module _ (list : List ℤ) (held : List ℕ) (a : room ≤ length list) (b : kept ≤ length held) where
-  abbrev pub fresh : Run
-  fresh = runOf (recordOf freshState) list held 0
+module _ (list : List ℤ) (held : List ℕ) (a : missingRoom ≤ length list) (b : heldRoom ≤ length held) where
+  abbrev pub fresh : Feeding
+  fresh = feeding (proxyWords freshProxy) list held 0
 
-  fresh-ready : Ready fresh
-  fresh-ready = record { good = good-is 256 (recordOf freshState) freshState (omega arith) ok-fresh refl; long = a; holds = b; empty = refl }
+  fresh-ready : BetweenLines fresh
+  fresh-ready = record { good = good-is 256 (proxyWords freshProxy) freshProxy (omega arith) ok-fresh refl; long = a; holds = b; empty = refl }
 
-  pub example-said : said (recorded example) fresh ≡ answers
-  example-said = recording-said example example-lines fresh fresh-ready .0 ∙ ap (replayed example) (record-reads-back freshState ok-fresh) ∙ example-replayed
+  pub example-said : saidThrough (recorded example) fresh ≡ answers
+  example-said = recording-said example example-lines fresh fresh-ready .0 ∙ ap (replayed example) (record-reads-back freshProxy ok-fresh) ∙ example-replayed
 
   -- calls of `feed` over the bytes of the example write the bytes that it "gives"
-  pub worked-example : {text : List ℕ} {end : Run} → Calls (recorded example) fresh text end → text ≡ answers
+  pub worked-example : {text : List ℕ} {end : Feeding} → FeedCalls (recorded example) fresh text end → text ≡ answers
   worked-example c = calls-said c .0 ∙ example-said

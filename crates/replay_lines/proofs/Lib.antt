@@ -1,10 +1,7 @@
-pub mod HexLaws
 pub mod FrameLaws
-pub mod DecimalLaws
 pub mod AnswerLaws
 pub mod StepLaws
 pub mod FeedLaws
-pub mod KnownValues
-pub mod ReplayLaws
 pub mod Promises
+pub mod KnownValues
 pub mod Determined

@@ -1,115 +1,75 @@
--- Input byte by byte, in pieces of any size: "Lines end in a line feed". Assumes nothing.
-use Prim.Native.Nat.{ℕ, suc, _-_, _<_, _≤_}
+-- Input byte by byte, in pieces of any size: "Lines end in a line feed, which a last, non-empty line may lack". Assumes nothing.
+use Prim.Native.Nat.{ℕ}
 use mathlib.Core.Path.{_≡_}
 use mathlib.Core.Bool.{cond}
 use mathlib.Core.List.{List, [], _∷_, _++_}
-use lib.ListN.{length, take, set}
+use lib.ListN.{length, take}
 use lib.Dec.{ltb, eqb}
 use lib.IntN.{ℤ}
-use Rattle.sequence_number.specs.Lent.{over}
-use Rattle.sequence_number.specs.Outcome.{Outcome, refused, done}
-use Rattle.proxy_record.specs.Record.{recordOf, stateOf}
+use Rattle.outcome.specs.Lent.{over}
+use Rattle.line_text.specs.Held.{Holding, holding, heldLine, heldOn}
+use Rattle.proxy_record.specs.Words.{proxyWords, proxyOf}
 use Rattle.replay_lines.specs.Frame.{parsed}
-use Rattle.replay_lines.specs.Answer.{Step, room, enough, stepOf, textOf}
+use Rattle.replay_lines.specs.Answer.{Step, stepOf, textOf}
 use Rattle.replay_lines.specs.declared.feed.Fed.{Fed}
-use Rattle.replay_lines.specs.declared.feed.Fed.the-variants.{Refused, Took}
 
 -- how many bytes are held of a line: one more than a line that reads has, so a longer line is seen not to read
-abbrev pub kept : ℕ
-kept = 35
+abbrev pub heldRoom : ℕ
+heldRoom = 35
 
--- what is lent from piece to piece: the proxy's record, the list, and the bytes held of a line, the first so many of some
-pub record Run : Type 0 where
+-- how many bytes of a piece one call takes
+abbrev pub pieceMost : ℕ
+pieceMost = 2048
+
+-- what is lent from piece to piece: the proxy's record, the list, and the bytes held of a line
+pub record Feeding : Type 0 where
   pub words : List ℕ
   pub list : List ℤ
-  pub held : List ℕ
-  pub count : ℕ
+  pub held : Holding
+
+abbrev pub feeding : List ℕ → List ℤ → List ℕ → ℕ → Feeding
+feeding words list held count = record { words = words; list = list; held = holding held count }
 
 -- what the line that is held does
-abbrev pub lineDoes : Run → Step
-lineDoes r = stepOf (parsed (take (r .count) (r .held))) (stateOf (r .words)) (r .list)
+abbrev pub lineDoes : Feeding → Step
+lineDoes r = stepOf (parsed (heldLine (r .held))) (proxyOf (r .words)) (r .list)
 
 -- a line feed ends the line that is held
-abbrev pub ended : Run → Run
-ended r = record { words = recordOf (lineDoes r .state); list = lineDoes r .list; held = r .held; count = 0 }
+abbrev pub lineEnded : Feeding → Feeding
+lineEnded r = feeding (proxyWords (lineDoes r .state)) (lineDoes r .list) (r .held .bytes) 0
 
--- any other byte is held, or passed over where so many are
-abbrev pub heldOn : ℕ → Run → Run
-heldOn b r = cond (ltb (r .count) kept) (record { words = r .words; list = r .list; held = set (r .held) (r .count) b; count = suc (r .count) }) r
+-- any other byte is held, or passed over where all that is lent holds bytes
+abbrev pub lineGoesOn : ℕ → Feeding → Feeding
+lineGoesOn b r = record { words = r .words; list = r .list; held = heldOn b (r .held) }
 
 -- a byte: 10 is the line feed; and what is said of it
-unfoldable pub took : ℕ → Run → Run
-took b r = cond (eqb b 10) (ended r) (heldOn b r)
+unfoldable pub took : ℕ → Feeding → Feeding
+took b r = cond (eqb b 10) (lineEnded r) (lineGoesOn b r)
 
-unfoldable pub says : ℕ → Run → List ℕ
+unfoldable pub says : ℕ → Feeding → List ℕ
 says b r = cond (eqb b 10) (textOf (lineDoes r)) []
 
--- how far a piece was taken: its bytes, what is lent, and all that was said
-pub record Progress : Type 0 where
-  pub taken : ℕ
-  pub run : Run
-  pub text : List ℕ
+-- bytes one after the other: what is lent after them, and all that was said
+abbrev pub fedThrough : List ℕ → Feeding → Feeding
+fedThrough [] r = r
+fedThrough (b ∷ bs) r = fedThrough bs (took b r)
 
-abbrev pub onward : ℕ → Progress → Progress
-onward b x = record { taken = suc (x .taken); run = took b (x .run); text = x .text ++ says b (x .run) }
+abbrev pub saidThrough : List ℕ → Feeding → List ℕ
+saidThrough [] r = []
+saidThrough (b ∷ bs) r = says b r ++ saidThrough bs (took b r)
 
--- byte by byte, until the piece ends or what is left of the buffer might not hold the next answer
-unfoldable pub goOn : ℕ → List ℕ → Progress → Progress
-goOn size [] x = x
-goOn size (b ∷ piece) x = cond (ltb (size - length (x .text)) enough) x (goOn size piece (onward b x))
+-- what is fed after the input: the line feed that a last line lacks, where bytes of it are held
+abbrev pub lacking : Feeding → List ℕ
+lacking r = cond (ltb 0 (r .held .count)) (10 ∷ []) []
 
-abbrev pub begin : Run → Progress
-begin r = record { taken = 0; run = r; text = [] }
+-- What is promised of bytes that were fed: what is lent after them, and what was said, from the buffer's front
 
--- what an accepted piece says: how many of its bytes were taken, how many of a line are held after them, and how many bytes were written
-pub record Tally : Type 0 where
-  pub taken : ℕ
-  pub count : ℕ
-  pub wrote : ℕ
+pub record FedWith (count wrote : ℕ) (words : List ℕ) (list : List ℤ) (held out out′ bytes : List ℕ) (r : Feeding) : Type 0 where
+  pub fed-is : feeding words list held count ≡ fedThrough bytes r
+  pub out-is : out′ ≡ over (saidThrough bytes r) out
+  pub wrote-is : wrote ≡ length (saidThrough bytes r)
 
-abbrev pub tallyOf : ℕ → ℕ → ℕ → Tally
-tallyOf taken count wrote = record { taken = taken; count = count; wrote = wrote }
-
--- the paper's number and values for each answer
-abbrev pub fedOf : Fed → Outcome Tally
-fedOf (Refused n) = refused n
-fedOf (Took taken count wrote) = done (tallyOf taken count wrote)
-
--- the answer, and what is lent as it is after the call
-pub record AfterPiece : Type 0 where
-  pub answer : Outcome Tally
-  pub run : Run
-  pub out : List ℕ
-
-abbrev pub tallied : Progress → List ℕ → AfterPiece
-tallied x out = record { answer = done (tallyOf (x .taken) (x .run .count) (length (x .text))); run = x .run; out = over (x .text) out }
-
-abbrev pub unfed : Run → List ℕ → AfterPiece
-unfed r out = record { answer = refused 3; run = r; out = out }
-
--- a list, a buffer or held bytes that are too short, and a count that is too large, are refused with 3 and leave everything
-unfoldable pub fed : Run → List ℕ → List ℕ → AfterPiece
-fed r piece out =
-    cond (ltb (length (r .list)) room) (unfed r out)
-    (cond (ltb (length (r .held)) kept) (unfed r out)
-    (cond (ltb kept (r .count)) (unfed r out)
-    (cond (ltb (length out) enough) (unfed r out)
-    (tallied (goOn (length out) piece (begin r)) out))))
-
--- What is promised of a piece
-
-abbrev pub runOf : List ℕ → List ℤ → List ℕ → ℕ → Run
-runOf words list held count = record { words = words; list = list; held = held; count = count }
-
--- the lent words, list, held bytes and buffer after a call
-pub record Fed-to (r : Fed) (words : List ℕ) (list : List ℤ) (held out : List ℕ) (x : AfterPiece) : Type 0 where
-  pub answer-is : fedOf r ≡ x .answer
-  pub words-are : words ≡ x .run .words
-  pub list-is : list ≡ x .run .list
-  pub held-are : held ≡ x .run .held
-  pub out-is : out ≡ x .out
-
--- what a caller's loop goes by: within the piece and the buffer, and further on in a piece that is not empty
-abbrev pub Within : List ℕ → List ℕ → Fed → Type 0
-Within piece out (Refused k) = Unit {0}
-Within piece out (Took taken count wrote) = (taken ≤ length piece) × (0 < length piece → 0 < taken) × (count ≤ kept) × (wrote ≤ length out)
+-- of a piece: its first bytes were taken, all where it has no more than are taken at once
+pub record PieceFed (f : Fed) (words : List ℕ) (list : List ℤ) (held out out′ piece : List ℕ) (r : Feeding) : Type 0 where
+  pub taken-is : f .taken ≡ length (take pieceMost piece)
+  pub fed-with : FedWith (f .count) (f .wrote) words list held out out′ (take pieceMost piece) r

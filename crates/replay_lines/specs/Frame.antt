@@ -6,17 +6,17 @@ use lib.ListN.{length}
 use lib.Dec.{eqb}
 use mir.Syntax.{w64}
 use mir.Val.{toZ}
-use Rattle.sequence_number.specs.Outcome.{Outcome, refused, done}
-use Rattle.replay_lines.specs.Hex.{allHex, valueAt}
+use Rattle.outcome.specs.Outcome.{Outcome, refused, done}
+use Rattle.line_text.specs.Hex.{allHex, valueAt}
 use Rattle.replay_lines.specs.declared.frame.Frame.{Frame}
 use Rattle.replay_lines.specs.declared.frame.Frame.the-variants.{Received, Range, Missing}
 use Rattle.replay_lines.specs.declared.frame.Parsed.{Parsed}
 use Rattle.replay_lines.specs.declared.frame.Parsed.the-variants.{Malformed, Reads}
 
 -- the paper's number and values for each answer: 1 is "a replay line is malformed"
-abbrev pub readOf : Parsed → Outcome Frame
-readOf Malformed = refused 1
-readOf (Reads frame) = done frame
+abbrev pub parsedSaid : Parsed → Outcome Frame
+parsedSaid Malformed = refused 1
+parsedSaid (Reads frame) = done frame
 
 -- "01 received (number, time), 02 range (a, b), 03 missing (start, end; room 256)"; "a received time is the second number's bits, unsigned"; any other kind does not read.
 -- `toZ w64` reads 64 bits as a signed number, in two's complement
@@ -29,4 +29,4 @@ frameOf kind a b =
 -- the bytes of a line, without its line feed: two digits of kind and twice sixteen of a number
 unfoldable pub parsed : List ℕ → Outcome Frame
 parsed line =
-    cond (eqb (length line) 34 && allHex line) (readOf (frameOf (valueAt line 0 2) (valueAt line 2 16) (valueAt line 18 16))) (refused 1)
+    cond (eqb (length line) 34 && allHex line) (parsedSaid (frameOf (valueAt line 0 2) (valueAt line 2 16) (valueAt line 18 16))) (refused 1)

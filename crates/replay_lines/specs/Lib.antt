@@ -1,6 +1,4 @@
-pub mod Hex
 pub mod Frame
-pub mod Decimal
 pub mod Answer
 pub mod Feed
 pub mod Inner

@@ -5,23 +5,22 @@ ghost use Prim.Native.Nat.{_≤_};
 ghost use lib.ListN.{length, take};
 ghost use lib.Seq.{sets};
 ghost use Rattle.sequence_number.specs.Number.{top, natOf};
-ghost use Rattle.sequence_number.specs.Outcome.{refusal, done};
-ghost use Rattle.proxy_record.specs.Record.{Good, stateOf};
-ghost use Rattle.proxy_core.specs.Calls.{reported};
-ghost use Rattle.replay_lines.specs.Decimal.{started};
+ghost use Rattle.outcome.specs.Outcome.{refusal, done};
+ghost use Rattle.proxy_record.specs.Rules.{GoodProxy};
+ghost use Rattle.proxy_record.specs.Words.{proxyOf};
+ghost use Rattle.proxy_steps.specs.Steps.{reportSaid};
+ghost use Rattle.line_text.specs.Decimal.{started};
 ghost use Rattle.replay_lines.specs.Frame.{parsed};
-ghost use Rattle.replay_lines.specs.Answer.{room, enough, toldMissing, stepOf, answered, Answered};
-ghost use Rattle.replay_lines.specs.Inner.{Wrote, Did};
-use crate::decimal::put_list;
-use crate::decimal::put_next;
-use crate::decimal::put_number;
+ghost use Rattle.replay_lines.specs.Answer.{missingRoom, answerMost, toldMissing, stepOf, LineWritten, LineAnswered};
 use crate::frame::Frame;
 use crate::frame::Parsed;
 use crate::frame::parse;
-use proxy_core::Report;
-use sequence_number::wire::Written;
+use line_text::decimal::put_list;
+use line_text::decimal::put_next;
+use line_text::decimal::put_number;
+use outcome::Listing;
+use proxy_steps::Report;
 use writer_proxy::irrelevant::irrelevant_changes_range;
-use writer_proxy::missing::Listing;
 use writer_proxy::missing::missing_seqnums;
 use writer_proxy::query::all_ackable_before;
 use writer_proxy::received::received_changes_add;
@@ -34,7 +33,7 @@ pub const ANSWER: usize = 5148;
 
 // Document 01's refusal number, or 0.
 fn refusal_of(r: Report) -> u64
-    ensures { λ n. ⌜ n ≡ refusal (reported r) ⌝ }
+    ensures { λ n. ⌜ n ≡ refusal (reportSaid r) ⌝ }
 {
     match r {
         Report::Done => 0,
@@ -56,7 +55,7 @@ fn put_head(out: &mut [u8], kind: u64, refusal: u64, base: u64) -> usize
 // A line of kind, refusal and base.
 fn put_short(out: &mut [u8], kind: u64, refusal: u64, base: u64) -> usize
     requires { ⌜ 63 ≤ length (now out) ⌝ }
-    ensures { λ r. ⌜ Wrote r (now (out .entry)) (now (out .exit)) kind (refusal ∷ base ∷ []) ⌝ }
+    ensures { λ r. ⌜ LineWritten r (now (out .entry)) (now (out .exit)) kind (refusal ∷ base ∷ []) ⌝ }
 {
     let end = put_head(out, kind, refusal, base);
     out[end] = b'\n';
@@ -65,8 +64,8 @@ fn put_short(out: &mut [u8], kind: u64, refusal: u64, base: u64) -> usize
 
 // The line of a missing list: the first count numbers of the lent one.
 fn put_missing(out: &mut [u8], base: u64, list: &[i64], count: usize) -> usize
-    requires { ⌜ (enough ≤ length (now out)) × (base ≤ top) × (count ≤ room) × (count ≤ length (now list)) ⌝ }
-    ensures { λ r. ⌜ Wrote r (now (out .entry)) (now (out .exit)) 3 (0 ∷ base ∷ count ∷ map natOf (take count (now (list .entry)))) ⌝ }
+    requires { ⌜ (answerMost ≤ length (now out)) × (base ≤ top) × (count ≤ missingRoom) × (count ≤ length (now list)) ⌝ }
+    ensures { λ r. ⌜ LineWritten r (now (out .entry)) (now (out .exit)) 3 (0 ∷ base ∷ count ∷ map natOf (take count (now (list .entry)))) ⌝ }
 {
     let a = put_head(out, 3, 0, base);
     let b = put_next(out, a, count as u64);
@@ -77,8 +76,8 @@ fn put_missing(out: &mut [u8], base: u64, list: &[i64], count: usize) -> usize
 
 // The line of a call that changed the proxy, or would have.
 fn tell(words: &[u64], kind: u64, r: Report, out: &mut [u8]) -> usize
-    requires { ⌜ Good (now words) × (enough ≤ length (now out)) ⌝ }
-    ensures { λ n. ⌜ Wrote n (now (out .entry)) (now (out .exit)) kind (refusal (reported r) ∷ stateOf (now (words .entry)) .base ∷ []) ⌝ }
+    requires { ⌜ GoodProxy (now words) × (answerMost ≤ length (now out)) ⌝ }
+    ensures { λ n. ⌜ LineWritten n (now (out .entry)) (now (out .exit)) kind (refusal (reportSaid r) ∷ proxyOf (now (words .entry)) .base ∷ []) ⌝ }
 {
     let refusal = refusal_of(r);
     let base = all_ackable_before(words);
@@ -87,9 +86,9 @@ fn tell(words: &[u64], kind: u64, r: Report, out: &mut [u8]) -> usize
 
 // What is missing, listed and told.
 fn tell_missing(words: &[u64], start: i64, end: i64, list: &mut [i64], out: &mut [u8]) -> usize
-    requires { ⌜ Good (now words) × (room ≤ length (now list)) × (enough ≤ length (now out)) ⌝ }
-    ensures { λ n. ⌜ Wrote n (now (out .entry)) (now (out .exit)) 3 (toldMissing start end (stateOf (now (words .entry))) (now (list .entry)) .after) ⌝ }
-    ensures { λ n. ⌜ now (list .exit) ≡ toldMissing start end (stateOf (now (words .entry))) (now (list .entry)) .list ⌝ }
+    requires { ⌜ GoodProxy (now words) × (missingRoom ≤ length (now list)) × (answerMost ≤ length (now out)) ⌝ }
+    ensures { λ n. ⌜ LineWritten n (now (out .entry)) (now (out .exit)) 3 (toldMissing start end (proxyOf (now (words .entry))) (now (list .entry)) .after) ⌝ }
+    ensures { λ n. ⌜ now (list .exit) ≡ toldMissing start end (proxyOf (now (words .entry))) (now (list .entry)) .list ⌝ }
 {
     let listing = missing_seqnums(words, start, end, &mut list[..ROOM]);
     let base = all_ackable_before(words);
@@ -101,9 +100,9 @@ fn tell_missing(words: &[u64], start: i64, end: i64, list: &mut [i64], out: &mut
 
 // A frame, done and told.
 fn answer_frame(words: &mut [u64], frame: Frame, list: &mut [i64], out: &mut [u8]) -> usize
-    requires { ⌜ Good (now words) × (room ≤ length (now list)) × (enough ≤ length (now out)) ⌝ }
-    ensures { λ n. ⌜ Did n (now (words .exit)) (now (list .exit)) (now (out .entry)) (now (out .exit)) (stepOf (done frame) (stateOf (now (words .entry))) (now (list .entry))) ⌝ }
-    ensures { λ n. ⌜ Good (now (words .exit)) ⌝ }
+    requires { ⌜ GoodProxy (now words) × (missingRoom ≤ length (now list)) × (answerMost ≤ length (now out)) ⌝ }
+    ensures { λ n. ⌜ LineAnswered n (now (words .exit)) (now (list .exit)) (now (out .entry)) (now (out .exit)) (stepOf (done frame) (proxyOf (now (words .entry))) (now (list .entry))) ⌝ }
+    ensures { λ n. ⌜ GoodProxy (now (words .exit)) ⌝ }
 {
     match frame {
         Frame::Received { number, time } => {
@@ -120,9 +119,9 @@ fn answer_frame(words: &mut [u64], frame: Frame, list: &mut [i64], out: &mut [u8
 
 // A line, without its line feed, read, done and told.
 pub(crate) fn answer(words: &mut [u64], line: &[u8], list: &mut [i64], out: &mut [u8]) -> usize
-    requires { ⌜ Good (now words) × (room ≤ length (now list)) × (enough ≤ length (now out)) ⌝ }
-    ensures { λ n. ⌜ Did n (now (words .exit)) (now (list .exit)) (now (out .entry)) (now (out .exit)) (stepOf (parsed (now (line .entry))) (stateOf (now (words .entry))) (now (list .entry))) ⌝ }
-    ensures { λ n. ⌜ Good (now (words .exit)) ⌝ }
+    requires { ⌜ GoodProxy (now words) × (missingRoom ≤ length (now list)) × (answerMost ≤ length (now out)) ⌝ }
+    ensures { λ n. ⌜ LineAnswered n (now (words .exit)) (now (list .exit)) (now (out .entry)) (now (out .exit)) (stepOf (parsed (now (line .entry))) (proxyOf (now (words .entry))) (now (list .entry))) ⌝ }
+    ensures { λ n. ⌜ GoodProxy (now (words .exit)) ⌝ }
 {
     let Parsed::Reads(frame) = parse(line) else {
         let base = all_ackable_before(words);
@@ -131,17 +130,16 @@ pub(crate) fn answer(words: &mut [u64], line: &[u8], list: &mut [i64], out: &mut
     answer_frame(words, frame, list, out)
 }
 
-// The answer to a line, without its line feed: how many bytes were written. Refused with 3: a list shorter than ROOM, a buffer shorter than ANSWER.
-pub fn answer_line(words: &mut [u64], line: &[u8], list: &mut [i64], out: &mut [u8]) -> Written
-    requires { ⌜ Good (now words) ⌝ }
-    ensures { λ r. ⌜ Answered r (now (words .exit)) (now (list .exit)) (now (out .exit)) (answered (now (words .entry)) (now (line .entry)) (now (list .entry)) (now (out .entry))) ⌝ }
-    ensures { λ r. ⌜ Good (now (words .exit)) ⌝ }
+// The answer to a line, without its line feed: how many bytes were written.
+pub fn answer_line(
+    words: &mut [u64],
+    line: &[u8],
+    list: &mut [i64; ROOM],
+    out: &mut [u8; ANSWER],
+) -> usize
+    requires { ⌜ GoodProxy (now words) ⌝ }
+    ensures { λ n. ⌜ LineAnswered n (now (words .exit)) (now (list .exit)) (now (out .entry)) (now (out .exit)) (stepOf (parsed (now (line .entry))) (proxyOf (now (words .entry))) (now (list .entry))) ⌝ }
+    ensures { λ n. ⌜ GoodProxy (now (words .exit)) ⌝ }
 {
-    if list.len() < ROOM {
-        return Written::Refused(3);
-    }
-    if out.len() < ANSWER {
-        return Written::Refused(3);
-    }
-    Written::Wrote(answer(words, line, list, out))
+    answer(words, line, list, out)
 }

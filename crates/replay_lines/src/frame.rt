@@ -1,8 +1,8 @@
 // A line as a frame: a kind byte and two signed 8-byte big-endian numbers.
 ghost use mathlib.Core.Path.{_≡_};
-ghost use Rattle.replay_lines.specs.Frame.{readOf, parsed, frameOf};
-use crate::hex::all_hex;
-use crate::hex::value_at;
+ghost use Rattle.replay_lines.specs.Frame.{parsedSaid, parsed, frameOf};
+use line_text::hex::all_hex;
+use line_text::hex::value_at;
 use sequence_number::signed::of_bits;
 
 // What a line asks of the proxy.
@@ -47,7 +47,7 @@ fn frame_of(kind: u64, a: u64, b: u64) -> Parsed
 
 // The bytes of a line, without its line feed.
 pub fn parse(line: &[u8]) -> Parsed
-    ensures { λ r. ⌜ readOf r ≡ parsed (now (line .entry)) ⌝ }
+    ensures { λ r. ⌜ parsedSaid r ≡ parsed (now (line .entry)) ⌝ }
 {
     if line.len() != DIGITS {
         return Parsed::Malformed;

@@ -17,10 +17,10 @@ use mir.Val.{Fits, SFits, ofZ, toZ}
 use mir.Facts.{toZ-ofZ, toZ-pos, toZ-neg, fits-ofZ}
 use borrow.Author.Tests.{lt-ltb, le-ltb, ltb-true, ltb-false}
 use Rattle.sequence_number.specs.Word.{wordAt, wordBytes}
-use Rattle.sequence_number.specs.Kind.{Kind, sequence, fragment, sequenceAt, sequenceBytes}
+use Rattle.sequence_number.specs.Kind.{Kind, sequenceNumber, fragmentNumber, sequenceAt, sequenceBytes}
 use Rattle.sequence_number.specs.declared.ByteOrder.{ByteOrder}
-use Rattle.sequence_number.proofs.Split.{split-lt}
-use Rattle.sequence_number.proofs.RunLaws.{sets-sets}
+use Rattle.outcome.proofs.Split.{split-lt}
+use Rattle.outcome.proofs.LentLaws.{sets-sets}
 use Rattle.sequence_number.proofs.WordLaws.{length-bytes, word-bytes, word-append}
 
 -- high * 2^32 + low, with the high word signed, is the 64 bits read as signed
@@ -117,11 +117,11 @@ below-plus (negsuc b) i j h = go (split-lt i (suc b)) (split-lt j (suc b))
     go (inr p) (inr q) = rw (le-ltb i (suc b) p, le-ltb j (suc b) q) (lt-ltb (i - suc b) (j - suc b) (omega arith))
 
 -- a position below one that fits, fits
-pub fits-below : (b : ℤ) (k m : ℕ) → k ≤ m → sequence .fits b m ≡ true → sequence .fits b k ≡ true
+pub fits-below : (b : ℤ) (k m : ℕ) → k ≤ m → sequenceNumber .fits b m ≡ true → sequenceNumber .fits b k ≡ true
 fits-below (pos a) k m h t = lt-ltb (a + k) (2 ^ 63) (omega (arith, ltb-true (a + m) (2 ^ 63) t))
 fits-below (negsuc a) k m h t = go (decLt k (suc a)) (decLt m (suc a)) t
   where
-    go : Dec (k < suc a) → Dec (m < suc a) → sequence .fits (negsuc a) m ≡ true → sequence .fits (negsuc a) k ≡ true
+    go : Dec (k < suc a) → Dec (m < suc a) → sequenceNumber .fits (negsuc a) m ≡ true → sequenceNumber .fits (negsuc a) k ≡ true
     go (yes p) q u = rw (lt-ltb k (suc a) p)
     go (no p) (yes q) u = absurd (omega (arith, p))
     go (no p) (no q) u =
@@ -146,7 +146,7 @@ pub record Lawful (k : Kind) : Type 1 where
   pub below-plus : (b : k .Number) (i j : ℕ) → i < j → k .below (k .plus b i) (k .plus b j) ≡ true
   pub fits-below : (b : k .Number) (i j : ℕ) → i ≤ j → k .fits b j ≡ true → k .fits b i ≡ true
 
-abbrev pub sequence-lawful : Lawful sequence
+abbrev pub sequence-lawful : Lawful sequenceNumber
 sequence-lawful =
     record {
       Valid = SFits w64;
@@ -163,7 +163,7 @@ sequence-lawful =
       fits-below = fits-below;
     }
 
-abbrev pub fragment-lawful : Lawful fragment
+abbrev pub fragment-lawful : Lawful fragmentNumber
 fragment-lawful =
     record {
       Valid = Fits w32;

@@ -12,7 +12,7 @@ use mir.Val.{SFits, Fits, ofZ, toZ}
 use mir.Facts.{toZ-ofZ}
 use borrow.Author.Tests.{lt-ltb, le-ltb, ltb-true, ltb-false, le-leb, leb-true}
 use Rattle.sequence_number.specs.Number.{top, isNumber, natOf, numberOf}
-use Rattle.sequence_number.proofs.Split.{split-lt}
+use Rattle.outcome.proofs.Split.{split-lt}
 
 pub number-low : (n : ℤ) → ltZ n (pos 1) ≡ true → 0 ≡ numberOf n
 number-low (pos n) h = rw (le-ltb 0 n (omega (arith, ltb-true n 1 h)))

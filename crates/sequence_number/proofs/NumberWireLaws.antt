@@ -7,13 +7,13 @@ use native.Mathlib.Omega.{arith}
 use lib.ListN.{length, drop, length-append}
 use lib.Seq.{sets}
 use borrow.Author.Tests.{lt-ltb, le-ltb}
-use Rattle.sequence_number.specs.Outcome.{refused, done}
-use Rattle.sequence_number.specs.Lent.{over}
+use Rattle.outcome.specs.Outcome.{refused, done}
+use Rattle.outcome.specs.Lent.{over}
 use Rattle.sequence_number.specs.Kind.{Kind}
 use Rattle.sequence_number.specs.NumberWire.{readNumber, Writes}
 use Rattle.sequence_number.specs.declared.ByteOrder.{ByteOrder}
 use Rattle.sequence_number.specs.declared.wire.Written.the-variants as written
-use Rattle.sequence_number.proofs.RunLaws.{sets-over}
+use Rattle.outcome.proofs.LentLaws.{sets-over}
 use Rattle.sequence_number.proofs.KindLaws.{Lawful}
 
 module _ (k : Kind) (o : ByteOrder) (s : List ℕ) where

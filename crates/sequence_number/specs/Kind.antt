@@ -37,8 +37,8 @@ abbrev pub sequenceBytes : ByteOrder → ℤ → List ℕ
 sequenceBytes o n = wordBytes o (ofZ w64 n / 2 ^ 32) ++ wordBytes o (ofZ w64 n % 2 ^ 32)
 
 -- "A sequence number is signed 64-bit"
-abbrev pub sequence : Kind
-sequence =
+abbrev pub sequenceNumber : Kind
+sequenceNumber =
     record {
       Number = ℤ;
       size = 8;
@@ -53,8 +53,8 @@ sequence =
     }
 
 -- "A fragment number is unsigned 32-bit": one word (RTPS 2.5, 8.3.5.6 and 9.4.2.7)
-abbrev pub fragment : Kind
-fragment =
+abbrev pub fragmentNumber : Kind
+fragmentNumber =
     record {
       Number = ℕ;
       size = 4;

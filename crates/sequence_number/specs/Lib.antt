@@ -1,5 +1,3 @@
-pub mod Outcome
-pub mod Lent
 pub mod Number
 pub mod Word
 pub mod Kind

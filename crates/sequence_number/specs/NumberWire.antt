@@ -6,7 +6,7 @@ use mathlib.Core.List.{List}
 use lib.ListN.{length}
 use lib.Dec.{ltb}
 use lib.IntN.{ℤ}
-use Rattle.sequence_number.specs.Outcome.{Outcome, refused, done, left}
+use Rattle.outcome.specs.Outcome.{Outcome, refused, done, left}
 use Rattle.sequence_number.specs.Kind.{Kind}
 use Rattle.sequence_number.specs.declared.ByteOrder.{ByteOrder}
 use Rattle.sequence_number.specs.declared.wire.SequenceNumberRead.{SequenceNumberRead}
@@ -17,17 +17,17 @@ use Rattle.sequence_number.specs.declared.wire.FragmentNumberRead.the-va
 use Rattle.sequence_number.specs.declared.wire.Written.the-variants as written
 
 -- the paper's number and values for each answer
-abbrev pub readSequence : SequenceNumberRead → Outcome ℤ
-readSequence (sequence-read.Refused n) = refused n
-readSequence (sequence-read.Number x) = done x
+abbrev pub sequenceReadSaid : SequenceNumberRead → Outcome ℤ
+sequenceReadSaid (sequence-read.Refused n) = refused n
+sequenceReadSaid (sequence-read.Number x) = done x
 
-abbrev pub readFragment : FragmentNumberRead → Outcome ℕ
-readFragment (fragment-read.Refused n) = refused n
-readFragment (fragment-read.Number x) = done x
+abbrev pub fragmentReadSaid : FragmentNumberRead → Outcome ℕ
+fragmentReadSaid (fragment-read.Refused n) = refused n
+fragmentReadSaid (fragment-read.Number x) = done x
 
-abbrev pub wrote : Written → Outcome ℕ
-wrote (written.Refused n) = refused n
-wrote (written.Wrote n) = done n
+abbrev pub writtenSaid : Written → Outcome ℕ
+writtenSaid (written.Refused n) = refused n
+writtenSaid (written.Wrote n) = done n
 
 -- 1 where the bytes end early, else the number at their front; bytes after it are not looked at
 abbrev pub readNumber : (k : Kind) → ByteOrder → List ℕ → Outcome (k .Number)
@@ -39,5 +39,5 @@ writeNumber k room = cond (ltb room (k .size)) (refused 3) (done (k .size))
 
 -- what writing n to the lent bytes promises: the answer, and each byte
 pub record Writes (k : Kind) (o : ByteOrder) (n : k .Number) (before : List ℕ) (r : Written) (after : List ℕ) : Type 0 where
-  pub answer : wrote r ≡ writeNumber k (length before)
+  pub answer : writtenSaid r ≡ writeNumber k (length before)
   pub bytes : after ≡ left (writeNumber k (length before)) (k .numberBytes o n) before

@@ -8,8 +8,8 @@ ghost use mathlib.Core.Path.{_≡_};
 ghost use Prim.Native.Nat.{_+_, _≤_};
 ghost use lib.ListN.{length};
 ghost use lib.Seq.{sets};
-ghost use Rattle.sequence_number.specs.Kind.{sequence, fragment, sequenceAt, sequenceBytes};
-ghost use Rattle.sequence_number.specs.NumberWire.{readSequence, readFragment, readNumber, Writes};
+ghost use Rattle.sequence_number.specs.Kind.{sequenceNumber, fragmentNumber, sequenceAt, sequenceBytes};
+ghost use Rattle.sequence_number.specs.NumberWire.{sequenceReadSaid, fragmentReadSaid, readNumber, Writes};
 
 pub enum SequenceNumberRead {
     Refused(u8),
@@ -49,7 +49,7 @@ pub fn sequence_to(o: ByteOrder, n: i64, out: &mut [u8], at: usize)
 
 // The sequence number at the front of the bytes; 1 where they end early.
 pub fn read_sequence_number(o: ByteOrder, s: &[u8]) -> SequenceNumberRead
-    ensures { λ r. ⌜ readSequence r ≡ readNumber sequence o (now (s .entry)) ⌝ }
+    ensures { λ r. ⌜ sequenceReadSaid r ≡ readNumber sequenceNumber o (now (s .entry)) ⌝ }
 {
     if s.len() < 8 {
         return SequenceNumberRead::Refused(1);
@@ -59,7 +59,7 @@ pub fn read_sequence_number(o: ByteOrder, s: &[u8]) -> SequenceNumberRead
 
 // The sequence number to the front of the lent bytes; 3 where they are too few.
 pub fn write_sequence_number(o: ByteOrder, n: i64, out: &mut [u8]) -> Written
-    ensures { λ r. ⌜ Writes sequence o n (now (out .entry)) r (now (out .exit)) ⌝ }
+    ensures { λ r. ⌜ Writes sequenceNumber o n (now (out .entry)) r (now (out .exit)) ⌝ }
 {
     if out.len() < 8 {
         return Written::Refused(3);
@@ -70,7 +70,7 @@ pub fn write_sequence_number(o: ByteOrder, n: i64, out: &mut [u8]) -> Written
 
 // The fragment number at the front of the bytes; 1 where they end early.
 pub fn read_fragment_number(o: ByteOrder, s: &[u8]) -> FragmentNumberRead
-    ensures { λ r. ⌜ readFragment r ≡ readNumber fragment o (now (s .entry)) ⌝ }
+    ensures { λ r. ⌜ fragmentReadSaid r ≡ readNumber fragmentNumber o (now (s .entry)) ⌝ }
 {
     if s.len() < 4 {
         return FragmentNumberRead::Refused(1);
@@ -80,7 +80,7 @@ pub fn read_fragment_number(o: ByteOrder, s: &[u8]) -> FragmentNumberRead
 
 // The fragment number to the front of the lent bytes; 3 where they are too few.
 pub fn write_fragment_number(o: ByteOrder, n: u32, out: &mut [u8]) -> Written
-    ensures { λ r. ⌜ Writes fragment o n (now (out .entry)) r (now (out .exit)) ⌝ }
+    ensures { λ r. ⌜ Writes fragmentNumber o n (now (out .entry)) r (now (out .exit)) ⌝ }
 {
     if out.len() < 4 {
         return Written::Refused(3);

@@ -1,8 +1,9 @@
+pub mod CallsLaws
+pub mod CallsInPlace
 pub mod QueryLaws
+pub mod PassedLaws
 pub mod SetUpLaws
-pub mod TrackedLaws
-pub mod ShownLaws
 pub mod MissingLaws
-pub mod CounterLaws
+pub mod MissingInPlace
 pub mod Promises
 pub mod Determined

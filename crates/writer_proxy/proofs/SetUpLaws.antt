@@ -7,47 +7,46 @@ use lib.ListN.{length, take, drop, set}
 use lib.Dec.{ltb}
 use lib.Seq.{take-at}
 use borrow.Author.Tests.{lt-ltb, le-ltb}
-use Rattle.proxy_record.specs.State.{freshState}
-use Rattle.proxy_record.specs.Record.{size, column, layout, recordOf, Good, zeros}
+use Rattle.proxy_record.specs.State.{freshProxy}
+use Rattle.proxy_record.specs.Words.{columnSize, proxySize, column, proxyLayout, proxyWords, zeros}
+use Rattle.proxy_record.specs.Rules.{GoodProxy}
 use Rattle.proxy_record.proofs.ColumnLaws.{zeros-append}
 use Rattle.proxy_record.proofs.PartLaws.{laid-length}
-use Rattle.proxy_record.proofs.RecordLaws.{kept-of}
-use Rattle.sequence_number.specs.Outcome.{refused, done}
-use Rattle.sequence_number.proofs.Split.{split}
-use Rattle.proxy_core.specs.Calls.{unforced}
-use Rattle.proxy_core.proofs.CallsLaws.{ok-fresh}
-use Rattle.proxy_core.proofs.StepLaws.{good-of}
-use Rattle.writer_proxy.specs.SetUp.{setUp}
+use Rattle.proxy_record.proofs.WordsLaws.{kept-of}
+use Rattle.outcome.specs.Outcome.{refused, done}
+use Rattle.outcome.proofs.Split.{split}
+use Rattle.proxy_record.proofs.RulesLaws.{ok-fresh, good-of}
+use Rattle.writer_proxy.specs.SetUp.{setUpProxy}
 
-length-fresh : length (recordOf freshState) ≡ size
-length-fresh = laid-length (kept-of freshState (recordOf freshState) (omega arith) refl)
+length-fresh : length (proxyWords freshProxy) ≡ proxySize
+length-fresh = laid-length (kept-of freshProxy (proxyWords freshProxy) (omega arith) refl)
 
-zeros-all : zeros 775 ≡ 0 ∷ (0 ∷ (0 ∷ (0 ∷ (zeros 257 ++ (zeros 257 ++ zeros 257)))))
+zeros-all : zeros proxySize ≡ 0 ∷ (0 ∷ (0 ∷ (0 ∷ (zeros columnSize ++ (zeros columnSize ++ zeros columnSize)))))
 unfolding zeros
-zeros-all = rw (zeros-append 257 257, zeros-append 257 514) refl
+zeros-all = rw (zeros-append columnSize columnSize, zeros-append columnSize (columnSize + columnSize)) refl
 
--- u is what `wipe` left
-fresh-words : (w u : List ℕ) → u ≡ take 0 w ++ (zeros 775 ++ drop (0 + 775) w) → set u 0 1 ≡ recordOf freshState ++ drop size w
-unfolding recordOf layout column
+-- u is what `wipe_record` left
+fresh-words : (w u : List ℕ) → u ≡ zeros proxySize ++ drop proxySize w → set u 0 1 ≡ proxyWords freshProxy ++ drop proxySize w
+unfolding proxyWords proxyLayout column
 fresh-words w u e = rw (e, zeros-all, append-assoc, append-assoc) refl
 
-pub set-up-short : (w : List ℕ) → length w < size → (refused 3 ≡ setUp w .report) × (w ≡ setUp w .words)
-unfolding setUp
-set-up-short w h = rw (lt-ltb (length w) size h) (refl, refl)
+pub set-up-short : (w : List ℕ) → length w < proxySize → (refused 3 ≡ setUpProxy w .answer) × (w ≡ setUpProxy w .words)
+unfolding setUpProxy
+set-up-short w h = rw (lt-ltb (length w) proxySize h) (refl, refl)
 
-pub set-up-done : (w u : List ℕ) → size ≤ length w → u ≡ take 0 w ++ (zeros 775 ++ drop (0 + 775) w) → (done unforced ≡ setUp w .report) × (set u 0 1 ≡ setUp w .words)
-unfolding setUp
-set-up-done w u h e = rw (le-ltb (length w) size h, length-fresh) (refl, fresh-words w u e)
+pub set-up-done : (w u : List ℕ) → proxySize ≤ length w → u ≡ zeros proxySize ++ drop proxySize w → (done tt ≡ setUpProxy w .answer) × (set u 0 1 ≡ setUpProxy w .words)
+unfolding setUpProxy
+set-up-done w u h e = rw (le-ltb (length w) proxySize h, length-fresh) (refl, fresh-words w u e)
 
-pub set-up-good : (w : List ℕ) → size ≤ length w → Good (take size (setUp w .words))
-unfolding setUp
+pub set-up-good : (w : List ℕ) → proxySize ≤ length w → GoodProxy (take proxySize (setUpProxy w .words))
+unfolding setUpProxy
 set-up-good w h =
-    rw (le-ltb (length w) size h, length-fresh, take-at (recordOf freshState) (drop size w) size length-fresh)
-    (good-of (recordOf freshState) freshState ok-fresh refl)
+    rw (le-ltb (length w) proxySize h, length-fresh, take-at (proxyWords freshProxy) (drop proxySize w) proxySize length-fresh)
+    (good-of (proxyWords freshProxy) freshProxy ok-fresh refl)
 
-pub set-up-refused-same : (w : List ℕ) (k : ℕ) → setUp w .report ≡ refused k → setUp w .words ≡ w
-unfolding setUp
+pub set-up-refused-same : (w : List ℕ) (k : ℕ) → setUpProxy w .answer ≡ refused k → setUpProxy w .words ≡ w
+unfolding setUpProxy
 set-up-refused-same w k =
-    split (ltb (length w) size)
+    split (ltb (length w) proxySize)
     (λ e. rw e (λ h. refl))
     (λ e. rw e (λ h. let z : _≡_ {A = ℕ} 0 1 = cc in absurd (omega arith)))

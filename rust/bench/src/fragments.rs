@@ -2,8 +2,6 @@
 
 use std::hint::black_box;
 
-use oracle::original;
-
 use crate::rounds::Case;
 use protocol::Random;
 
@@ -179,6 +177,6 @@ impl Case for Fragments {
     }
 
     fn agree(&self) -> bool {
-        self.original.how_many() == 0 && self.port.in_assembly().next().is_none()
+        self.original.in_assembly() == 0 && self.port.in_assembly() == 0
     }
 }

@@ -2,8 +2,6 @@
 
 use std::hint::black_box;
 
-use oracle::original;
-
 use crate::rounds::Case;
 use protocol::Random;
 

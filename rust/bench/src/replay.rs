@@ -31,7 +31,7 @@ pub fn cases() -> Result<Vec<Box<dyn Case>>, String> {
 }
 
 pub fn by_original() -> ExitCode {
-    match oracle::replay::replay(stdin(), stdout()) {
+    match original::replay::replay(stdin(), stdout()) {
         Ok(()) => ExitCode::SUCCESS,
         Err(_) => ExitCode::FAILURE,
     }

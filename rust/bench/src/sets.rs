@@ -4,8 +4,7 @@ use std::collections::BTreeSet;
 use std::hint::black_box;
 
 use drucenal::ByteOrder;
-use oracle::original;
-use oracle::original::SequenceNumber;
+use original::SequenceNumber;
 use speedy::{Endianness, Readable, SliceReader, VecWriter, Writable};
 
 use crate::rounds::Case;

@@ -1,6 +1,6 @@
 //! Scripts of the assembler: chains of fragments, runs, evictions, cleanings, reopened places, and every refusal.
 
-use oracle::Oracle;
+use original::Oracle;
 use protocol::{answer, hex, Assembler};
 
 use crate::checker::{Checker, Stopped, EXHAUSTIVE};

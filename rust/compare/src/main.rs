@@ -85,11 +85,11 @@ fn sides(asked: &Asked, part: &str) -> Result<Sides, String> {
         });
     }
     let start = |program: &str| Program::start(program).map_err(|error| format!("{program}: {error}"));
-    let oracle = || Box::new(InProcess(oracle::Oracle::new()));
+    let oracle = || Box::new(InProcess(original::Oracle::new()));
     Ok(match &asked.programs {
         Some((calls, oracle)) => (Box::new(start(calls)?), Box::new(start(oracle)?)),
         None if asked.itself => (oracle(), oracle()),
-        None => (Box::new(InProcess(calls::Calls::new())), oracle()),
+        None => (Box::new(InProcess(port::Port::new())), oracle()),
     })
 }
 

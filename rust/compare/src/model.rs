@@ -43,7 +43,7 @@ mod tests {
     /// Where the original can be asked, the model says the same.
     #[test]
     fn agrees_with_the_original() {
-        let mut oracle = oracle::Oracle::new();
+        let mut oracle = original::Oracle::new();
         for subset in 1u32..512 {
             let list: Vec<String> = (0..9)
                 .filter(|i| subset >> i & 1 == 1)

@@ -1,6 +1,6 @@
 //! Scripts of the writer proxy: random chains biased to the base, the table's ends and the cap.
 
-use oracle::Oracle;
+use original::Oracle;
 use protocol::{answer, Proxy, ProxyLook};
 
 use crate::checker::{Checker, Stopped, EXHAUSTIVE};

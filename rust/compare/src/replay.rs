@@ -39,7 +39,7 @@ pub struct OracleReplay;
 impl Side for OracleReplay {
     fn run(&mut self, script: &[Line]) -> Vec<String> {
         let mut output = Vec::new();
-        match oracle::replay::replay(file(script).as_slice(), &mut output) {
+        match original::replay::replay(file(script).as_slice(), &mut output) {
             Ok(()) => answers(&output, script.len()),
             Err(error) => vec![format!("err {error}"); script.len()],
         }

@@ -133,19 +133,20 @@ fn every_cut(checker: &mut Checker, random: &mut Random) -> Result<(), Stopped> 
     Ok(())
 }
 
-/// Every set of up to nine bits, at bases around 0 and the ends of the type.
+/// Every set of up to nine bits, with its unused bits all clear and all set, at bases around 0 and the ends of the type.
 fn every_small_walk(checker: &mut Checker) -> Result<(), Stopped> {
     for width in WIDTHS {
         let bases = [0, width.first, width.last].map(|base| base - 9..=base + 2);
         for base in bases.into_iter().flatten().filter(|base| width.holds(*base)) {
-            for bits in 0..512u32 {
-                let mut words = [0; 8];
-                words[0] = bits << 23;
-                let count = 9 - bits.trailing_zeros().min(9) + bits % 2;
-                let set = Set { base, count, words };
-                for way in ["up", "down"] {
-                    let line = format!("set.walk {} {way} {}", width.name, set.text());
-                    checker.lines(&[line.into_bytes()])?;
+            for (count, bits) in (0..=9).flat_map(|count| (0..1u32 << count).map(move |bits| (count, bits))) {
+                for unused in [0, u32::MAX >> count] {
+                    let mut words = [0; 8];
+                    words[0] = ((u64::from(bits) << 32 >> count) as u32) | unused;
+                    let set = Set { base, count, words };
+                    for way in ["up", "down"] {
+                        let line = format!("set.walk {} {way} {}", width.name, set.text());
+                        checker.lines(&[line.into_bytes()])?;
+                    }
                 }
             }
         }

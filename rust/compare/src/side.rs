@@ -4,7 +4,7 @@ use std::io::{BufRead, BufReader, BufWriter, Result, Write};
 use std::process::{Child, ChildStdout, Command, Stdio};
 use std::sync::mpsc::{channel, Sender};
 
-use protocol::{answer, Port};
+use protocol::{answer, Commands};
 
 /// A line without its line feed.
 pub type Line = Vec<u8>;
@@ -20,7 +20,7 @@ pub trait Side {
 /// Called in this process.
 pub struct InProcess<P>(pub P);
 
-impl<P: Port> Side for InProcess<P> {
+impl<P: Commands> Side for InProcess<P> {
     fn run(&mut self, script: &[Line]) -> Vec<String> {
         script.iter().map(|line| answer(&mut self.0, line)).collect()
     }

@@ -2,7 +2,7 @@
 
 use std::collections::{HashSet, VecDeque};
 
-use oracle::Oracle;
+use original::Oracle;
 use protocol::answer;
 
 use crate::checker::{Checker, Stopped};

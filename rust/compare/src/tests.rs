@@ -1,6 +1,6 @@
 //! Hidden faults must be found, and shrunk to the script that they need.
 
-use oracle::Oracle;
+use original::Oracle;
 use protocol::answer;
 
 use crate::checker::{Checker, Stopped};

@@ -137,7 +137,7 @@ mod library {
             area_length: usize,
             time: u64,
             number: i64,
-            size: u16,
+            fragment_size: u16,
             data_size: u32,
             start: u32,
             count: u16,
@@ -155,6 +155,7 @@ mod library {
             area_length: usize,
             place: usize,
             length: usize,
+            start: *mut usize,
         ) -> usize;
         pub fn drucenal_assembler_garbage_collect_before(
             words: *mut u64,
@@ -313,8 +314,8 @@ pub fn next_ack_nack_sequence_number(count: &mut i32) -> i32 {
 /// How many words a proxy's record has.
 const PROXY_WORDS: usize = 775;
 
-/// A writer proxy's record. A call that changes it reports a forced step by its old and new base, both 0 where there
-/// was none.
+/// A writer proxy's record. A call that changes it reports a forced step, which gives up what did not come, by its old
+/// and new base, both 0 where there was none.
 #[derive(Clone)]
 pub struct ProxyRecord(Box<[u64; PROXY_WORDS]>);
 
@@ -367,7 +368,7 @@ impl ProxyRecord {
         unsafe { library::drucenal_proxy_irrelevant_changes_up_to(words, PROXY_WORDS, smallest, old, new) }
     }
 
-    /// The ack base.
+    /// The ack base: what is below it came, is not available, or was given up by a forced step.
     #[inline]
     pub fn all_ackable_before(&self) -> u64 {
         unsafe { library::drucenal_proxy_all_ackable_before(self.0.as_ptr(), PROXY_WORDS) }
@@ -414,7 +415,7 @@ pub struct FragmentCall<'a> {
     /// The sample's number.
     pub number: i64,
     /// The fragment size that the message says.
-    pub size: u16,
+    pub fragment_size: u16,
     /// The sample's length.
     pub data_size: u32,
     /// The first fragment, from 1.
@@ -466,7 +467,7 @@ impl AssemblerRecord {
                 area.len(),
                 call.time,
                 call.number,
-                call.size,
+                call.fragment_size,
                 call.data_size,
                 call.start,
                 call.count,
@@ -480,11 +481,12 @@ impl AssemblerRecord {
         }
     }
 
-    /// How much of the area is shown for a place and a length: it starts at place times the place size.
+    /// How much of the area is shown for a place and a length: 0 where it would pass the area's end. `start`: where it
+    /// begins.
     #[inline]
-    pub fn view(&self, area: &[u8], place: usize, length: usize) -> usize {
+    pub fn view(&self, area: &[u8], place: usize, length: usize, start: &mut usize) -> usize {
         let (words, many) = (self.0.as_ptr(), ASSEMBLER_WORDS);
-        unsafe { library::drucenal_assembler_view(words, many, area.as_ptr(), area.len(), place, length) }
+        unsafe { library::drucenal_assembler_view(words, many, area.as_ptr(), area.len(), place, length, start) }
     }
 
     /// Drops what was last changed before this time; `listed`: how many. Refusal 3.

@@ -53,7 +53,7 @@ pub struct InAssembly {
     /// Where it lies.
     pub place: usize,
     /// Its length.
-    pub size: u64,
+    pub data_size: u64,
     /// How many fragments it has.
     pub fragments: u64,
     /// The time of its last fragment.
@@ -120,7 +120,7 @@ impl FragmentAssembler {
         let call = FragmentCall {
             time,
             number: datafrag.writer_sn,
-            size: datafrag.fragment_size,
+            fragment_size: datafrag.fragment_size,
             data_size: datafrag.data_size,
             start: datafrag.fragment_starting_num,
             count: datafrag.fragments_in_submessage,
@@ -140,9 +140,9 @@ impl FragmentAssembler {
     /// the area's end.
     #[inline]
     pub fn view(&self, place: usize, length: usize) -> &[u8] {
-        let shown = self.record.view(&self.area, place, length);
-        let from = place.wrapping_mul(place_size(&self.record));
-        self.area.get(from..from.wrapping_add(shown)).unwrap_or_default()
+        let mut start = 0;
+        let shown = self.record.view(&self.area, place, length, &mut start);
+        &self.area[start..start + shown]
     }
 
     /// Drops what was last changed before this time, and lists it, rising: how many, 128 at most. Refusal 3.
@@ -170,25 +170,25 @@ impl FragmentAssembler {
 
     /// How many numbers are in assembly: 128 at most.
     #[inline]
-    pub fn how_many(&self) -> usize {
+    pub fn in_assembly(&self) -> usize {
         self.record.in_assembly()
     }
 
     /// What is in assembly, by place.
-    pub fn in_assembly(&self) -> impl Iterator<Item = InAssembly> + '_ {
+    pub fn partially_received(&self) -> impl Iterator<Item = InAssembly> + '_ {
         let unit = fragment_size(&self.record).max(1);
-        taken(&self.record).map(move |(place, number, size, time)| InAssembly {
+        taken(&self.record).map(move |(place, number, data_size, time)| InAssembly {
             number,
             place,
-            size,
-            fragments: size.div_ceil(unit),
+            data_size,
+            fragments: data_size.div_ceil(unit),
             time,
         })
     }
 
     /// The bytes of a sample in assembly: those of missing fragments are zero.
     pub fn bytes_of(&self, sample: &InAssembly) -> &[u8] {
-        self.view(sample.place, sample.size as usize)
+        self.view(sample.place, sample.data_size as usize)
     }
 }
 
@@ -212,7 +212,7 @@ impl std::fmt::Debug for FragmentAssembler {
         out.debug_struct("FragmentAssembler")
             .field("fragment_size", &fragment_size(&self.record))
             .field("place_size", &place_size(&self.record))
-            .field("in_assembly", &self.how_many())
+            .field("in_assembly", &self.in_assembly())
             .finish()
     }
 }

@@ -4,7 +4,8 @@ use crate::ffi::{next_ack_nack_sequence_number, ProxyRecord};
 use crate::record::proxy::tracked;
 use crate::{accepted, Refused};
 
-/// 257 numbers would have been tracked: the lowest were given up, and the base was forced on.
+/// More than 256 numbers would have been tracked: the lowest were given up, and the base was forced on. What did not come below
+/// the new base will be acknowledged, and is no longer missing.
 #[derive(Debug, Clone, Copy, PartialEq, Eq, Hash)]
 pub struct ForcedStep {
     /// The base before.
@@ -26,6 +27,9 @@ pub enum ChangeStatus {
 
 /// The reader's side of one writer: the ack base, the numbers tracked above it, and the last received number. A time
 /// is any 64 bits of the caller's.
+///
+/// At most 256 numbers are tracked. A call that would track more gives up the lowest: it acknowledges what did not come,
+/// and reports it as a [`ForcedStep`].
 ///
 /// ```
 /// use drucenal::{ChangeStatus, ForcedStep, RtpsWriterProxy};
@@ -101,13 +105,14 @@ impl RtpsWriterProxy {
         self.change(|record, old, new| record.irrelevant_changes_up_to(smallest, old, new))
     }
 
-    /// The ack base: everything below it can be acknowledged.
+    /// The ack base: everything below it may be acknowledged. Each number there came, is not available, or was given up
+    /// by a [`ForcedStep`], which the call that made it reported.
     #[inline]
     pub fn all_ackable_before(&self) -> u64 {
         self.record.all_ackable_before()
     }
 
-    /// Whether the number is below the base or tracked: it came already, or will not come.
+    /// Whether the number is below the base or tracked: it came, is not available, or was given up.
     #[inline]
     pub fn should_ignore_change(&self, number: i64) -> bool {
         self.record.should_ignore_change(number)

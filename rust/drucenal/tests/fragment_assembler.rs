@@ -26,8 +26,8 @@ fn out_of_order_with_a_run() {
     assert_eq!(assembler.missing_frags_for(7, &mut missing), Ok(2));
     assert_eq!(missing, [1, 2, 0, 0]);
     assert_eq!(assembler.missing_frags_for(8, &mut missing), Ok(0));
-    let open: Vec<_> = assembler.in_assembly().collect();
-    assert_eq!((open[0].number, open[0].place, open[0].size), (7, 0, 10));
+    let open: Vec<_> = assembler.partially_received().collect();
+    assert_eq!((open[0].number, open[0].place, open[0].data_size), (7, 0, 10));
     assert_eq!((open[0].fragments, open[0].time), (3, 5));
     assert_eq!(assembler.bytes_of(&open[0]), b"\0\0\0\0\0\0\0\0ij");
 
@@ -76,11 +76,14 @@ fn cleaning() {
     let mut out = [90; 3];
     assert_eq!(assembler.garbage_collect_before(3, &mut out[..1]), Err(Refused::ROOM));
     assert_eq!(out, [90; 3]);
-    assert_eq!((assembler.how_many(), assembler.in_assembly().count()), (3, 3));
+    assert_eq!(
+        (assembler.in_assembly(), assembler.partially_received().count()),
+        (3, 3)
+    );
     assert_eq!(assembler.garbage_collect_before(3, &mut out), Ok(2));
     assert_eq!(out, [4, 9, 90]);
     assert_eq!(assembler.garbage_collect_before(3, &mut []), Ok(0));
-    assert!(assembler.in_assembly().map(|open| open.number).eq([6]));
+    assert!(assembler.partially_received().map(|open| open.number).eq([6]));
     assert_eq!(assembler.missing_frags_for(6, &mut [0; 1]), Err(Refused::ROOM));
 }
 
@@ -98,7 +101,10 @@ fn sizes_that_are_not_set_up() {
 fn refusals_change_nothing() {
     let mut assembler = assembler();
     assembler.new_datafrag(1, &fragment(5, 2, 1, b"efgh")).unwrap();
-    let before = (assembler.area().to_vec(), assembler.in_assembly().collect::<Vec<_>>());
+    let before = (
+        assembler.area().to_vec(),
+        assembler.partially_received().collect::<Vec<_>>(),
+    );
     let good = fragment(6, 1, 1, b"abcd");
     let with = |number, data_size, start, count| DataFrag {
         writer_sn: number,
@@ -139,7 +145,10 @@ fn refusals_change_nothing() {
         ..good
     };
     assert_eq!(many.new_datafrag(0, &opening), Err(Refused::MANY_FRAGMENTS));
-    let after = (assembler.area().to_vec(), assembler.in_assembly().collect::<Vec<_>>());
+    let after = (
+        assembler.area().to_vec(),
+        assembler.partially_received().collect::<Vec<_>>(),
+    );
     assert_eq!(before, after);
     assert_eq!(
         format!("{assembler:?}"),
@@ -157,5 +166,5 @@ fn an_area_too_short() {
     area.push(90);
     let mut other = short.clone();
     assert_eq!(other.new_datafrag(0, &fragment(1, 1, 1, b"abcd")), Ok(Outcome::Kept));
-    assert_eq!(short.how_many(), 0);
+    assert_eq!(short.in_assembly(), 0);
 }

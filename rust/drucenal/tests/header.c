@@ -116,7 +116,7 @@ static uint32_t fragment(uint64_t time, int64_t number, uint32_t start, const ch
 static void the_assembler(void) {
     uint32_t what = 90, length = 90, missing[2];
     uint64_t of = 90;
-    size_t place = 90, listed = 90;
+    size_t place = 90, listed = 90, start = 90;
     int64_t gone[2];
     CHECK(drucenal_assembler_set_up(ASSEMBLER, 0, true, 16) == DRUCENAL_SET_UP);
     CHECK(drucenal_assembler_set_up(ASSEMBLER, 4, true, 16) == 0);
@@ -131,9 +131,11 @@ static void the_assembler(void) {
     CHECK(drucenal_assembler_in_assembly(ASSEMBLER) == 2);
     CHECK(fragment(9, 9, 1, "abcd", &what, &of, &place, &length) == 0);
     CHECK(what == 1 && of == 9 && place == 0 && length == 6);
-    CHECK(drucenal_assembler_view(ASSEMBLER, area, sizeof area, place, length) == 6);
+    CHECK(drucenal_assembler_view(ASSEMBLER, area, sizeof area, place, length, &start) == 6 && start == 0);
     CHECK(memcmp(area, "abcdef", 6) == 0);
-    CHECK(drucenal_assembler_view(ASSEMBLER, area, sizeof area, DRUCENAL_PLACES, 1) == 0);
+    CHECK(drucenal_assembler_view(ASSEMBLER, area, sizeof area, 1, 4, &start) == 4 && start == 16);
+    CHECK(memcmp(area + start, "wxyz", 4) == 0);
+    CHECK(drucenal_assembler_view(ASSEMBLER, area, sizeof area, DRUCENAL_PLACES, 1, &start) == 0 && start == 0);
     CHECK(drucenal_assembler_garbage_collect_before(ASSEMBLER, 9, gone, 2, &listed) == 0);
     CHECK(listed == 1 && gone[0] == 10);
     CHECK(!drucenal_assembler_is_partially_received(ASSEMBLER, 10));

@@ -26,7 +26,7 @@ const EXPORTS: usize = 32;
 
 #[test]
 fn the_header_names_every_export() {
-    let sources = std::fs::read_dir(repository().join("crates/receiver/src")).expect("the library's sources");
+    let sources = std::fs::read_dir(repository().join("crates/drucenal/src")).expect("the library's sources");
     let sources = sources.map(|file| text(file.expect("a file").path()));
     let exported: BTreeSet<String> = sources.flat_map(|source| calls(&source)).collect();
     let header = calls(&text(repository().join("include/drucenal.h")));
@@ -45,8 +45,8 @@ fn a_c_program_links_and_runs() {
         .arg(repository().join("include"))
         .arg(here)
         .arg("-L")
-        .arg(env!("RECEIVER_FOUND"))
-        .args(["-lreceiver", "-o"])
+        .arg(env!("DRUCENAL_FOUND"))
+        .args(["-ldrucenal", "-o"])
         .arg(&program)
         .output()
         .expect("a C compiler is there as `cc`");

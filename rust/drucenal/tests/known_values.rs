@@ -10,13 +10,13 @@ fn made(base: i64, list: &[i64]) -> (i64, u32, [u32; 8]) {
     (set.base, set.count, set.words)
 }
 
-fn opening(number: i64, size: u16, data_size: u32, count: u16) -> DataFrag<'static> {
+fn opening(number: i64, fragment_size: u16, data_size: u32, count: u16) -> DataFrag<'static> {
     DataFrag {
         writer_sn: number,
         fragment_starting_num: 1,
         fragments_in_submessage: count,
         data_size,
-        fragment_size: size,
+        fragment_size,
         serialized_payload: &[],
     }
 }
@@ -122,10 +122,10 @@ fn the_129th() {
                 length: 8
             })
         );
-        assert_eq!(assembler.how_many(), 128);
+        assert_eq!(assembler.in_assembly(), 128);
         let outcome = assembler.new_datafrag(0, &opening(129, 4, 8, 1));
         assert_eq!(outcome, Ok(Outcome::Dropped { number: dropped }));
-        assert_eq!(assembler.how_many(), 128);
+        assert_eq!(assembler.in_assembly(), 128);
         assert!(!assembler.is_partially_received(dropped as i64));
     }
 }

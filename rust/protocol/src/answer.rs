@@ -2,27 +2,27 @@
 
 use std::fmt::{Display, Write};
 
-use crate::port::{error, Forced, Fragment, Happened, Open, Port, ProxyLook, Reply, Status, Stop};
+use crate::commands::{error, Commands, Forced, Fragment, Happened, Open, ProxyLook, Reply, Status, Stop};
 use crate::tokens::{hex, Tokens};
 use crate::{Set, MOST_AREA, MOST_ROOM};
 
 /// Answers one line (without its line feed), whatever bytes it has.
-pub fn answer<P: Port + ?Sized>(port: &mut P, line: &[u8]) -> String {
-    match command(port, line) {
+pub fn answer<P: Commands + ?Sized>(side: &mut P, line: &[u8]) -> String {
+    match command(side, line) {
         Ok(said) => said.0,
         Err(Stop::Refused(number)) => format!("ref {number}"),
         Err(Stop::Error(words)) => format!("err {words}"),
     }
 }
 
-fn command<P: Port + ?Sized>(port: &mut P, line: &[u8]) -> Reply<Said> {
+fn command<P: Commands + ?Sized>(side: &mut P, line: &[u8]) -> Reply<Said> {
     let mut tokens = Tokens::new(line);
     let t = &mut tokens;
     match t.word()? {
-        name if name.starts_with(b"num.") => numbers(port, name, t),
-        name if name.starts_with(b"set.") => sets(port, name, t),
-        name if name.starts_with(b"px.") => proxy(port, name, t),
-        name if name.starts_with(b"asm.") => assembler(port, name, t),
+        name if name.starts_with(b"num.") => numbers(side, name, t),
+        name if name.starts_with(b"set.") => sets(side, name, t),
+        name if name.starts_with(b"px.") => proxy(side, name, t),
+        name if name.starts_with(b"asm.") => assembler(side, name, t),
         _ => no_command(),
     }
 }
@@ -31,7 +31,7 @@ fn no_command<T>() -> Reply<T> {
     error("no command")
 }
 
-fn numbers<P: Port + ?Sized>(port: &mut P, name: &[u8], t: &mut Tokens) -> Reply<Said> {
+fn numbers<P: Commands + ?Sized>(side: &mut P, name: &[u8], t: &mut Tokens) -> Reply<Said> {
     match name {
         // The protocol lends a written number enough; a room may be named here too, to see refusal 3.
         b"num.write" => {
@@ -39,23 +39,23 @@ fn numbers<P: Port + ?Sized>(port: &mut P, name: &[u8], t: &mut Tokens) -> Reply
             let number = t.number_of(width)?;
             let room = t.last("room", MOST_ROOM)?;
             t.end()?;
-            Ok(ok().and(hex(&port.num_write(width, big, number, room)?)))
+            Ok(ok().and(hex(&side.num_write(width, big, number, room)?)))
         }
         b"num.read" => {
             let (width, big, bytes) = (t.width()?, t.order()?, t.bytes()?);
             t.end()?;
-            Ok(ok().and(port.num_read(width, big, &bytes)?))
+            Ok(ok().and(side.num_read(width, big, &bytes)?))
         }
         _ => no_command(),
     }
 }
 
-fn sets<P: Port + ?Sized>(port: &mut P, name: &[u8], t: &mut Tokens) -> Reply<Said> {
+fn sets<P: Commands + ?Sized>(side: &mut P, name: &[u8], t: &mut Tokens) -> Reply<Said> {
     match name {
         b"set.read" => {
             let (width, big, bytes) = (t.width()?, t.order()?, t.bytes()?);
             t.end()?;
-            let (set, taken) = port.set_read(width, big, &bytes)?;
+            let (set, taken) = side.set_read(width, big, &bytes)?;
             Ok(ok().set(&set).and(taken))
         }
         b"set.write" => {
@@ -63,7 +63,7 @@ fn sets<P: Port + ?Sized>(port: &mut P, name: &[u8], t: &mut Tokens) -> Reply<Sa
             let set = t.set(width)?;
             let room = t.last("room", MOST_ROOM)?;
             t.end()?;
-            Ok(ok().and(hex(&port.set_write(width, big, &set, room)?)))
+            Ok(ok().and(hex(&side.set_write(width, big, &set, room)?)))
         }
         b"set.walk" => {
             let width = t.width()?;
@@ -71,61 +71,61 @@ fn sets<P: Port + ?Sized>(port: &mut P, name: &[u8], t: &mut Tokens) -> Reply<Sa
             let set = t.set(width)?;
             let room = t.last("room", MOST_ROOM)?;
             t.end()?;
-            Ok(ok().list(&port.set_walk(width, rising, &set, room)?))
+            Ok(ok().list(&side.set_walk(width, rising, &set, room)?))
         }
         b"set.len" => {
             let width = t.width()?;
             let set = t.set(width)?;
             t.end()?;
-            Ok(ok().and(port.set_len(width, &set)?))
+            Ok(ok().and(side.set_len(width, &set)?))
         }
         b"set.make" => {
             let width = t.width()?;
             let (base, list) = (t.number_of(width)?, t.list(width)?);
             t.end()?;
-            Ok(ok().set(&port.set_make(width, base, &list)?))
+            Ok(ok().set(&side.set_make(width, base, &list)?))
         }
         _ => no_command(),
     }
 }
 
-fn proxy<P: Port + ?Sized>(port: &mut P, name: &[u8], t: &mut Tokens) -> Reply<Said> {
+fn proxy<P: Commands + ?Sized>(side: &mut P, name: &[u8], t: &mut Tokens) -> Reply<Said> {
     t.name()?;
     match name {
-        b"px.new" => done(t, || port.px_new()),
+        b"px.new" => done(t, || side.px_new()),
         b"px.recv" => {
             let (number, time) = (t.number()?, t.number()?);
             t.end()?;
-            let forced = port.px_recv(number, time)?;
-            changed(port, forced)
+            let forced = side.px_recv(number, time)?;
+            changed(side, forced)
         }
         b"px.irr" => {
             let number = t.number()?;
             t.end()?;
-            let forced = port.px_irr(number)?;
-            changed(port, forced)
+            let forced = side.px_irr(number)?;
+            changed(side, forced)
         }
         b"px.range" => {
             let (from, until_before) = (t.number()?, t.number()?);
             t.end()?;
-            let forced = port.px_range(from, until_before)?;
-            changed(port, forced)
+            let forced = side.px_range(from, until_before)?;
+            changed(side, forced)
         }
         b"px.upto" => {
             let smallest = t.number()?;
             t.end()?;
-            let forced = port.px_upto(smallest)?;
-            changed(port, forced)
+            let forced = side.px_upto(smallest)?;
+            changed(side, forced)
         }
         b"px.ign" => {
             let number = t.number()?;
             t.end()?;
-            Ok(ok().and(u8::from(port.px_ign(number)?)))
+            Ok(ok().and(u8::from(side.px_ign(number)?)))
         }
         b"px.stat" => {
             let number = t.number()?;
             t.end()?;
-            Ok(match port.px_stat(number)? {
+            Ok(match side.px_stat(number)? {
                 Status::Untracked => ok().and("untracked"),
                 Status::NotAvailable => ok().and("not-available"),
                 Status::Received(time) => ok().and("received").and(time),
@@ -135,40 +135,40 @@ fn proxy<P: Port + ?Sized>(port: &mut P, name: &[u8], t: &mut Tokens) -> Reply<S
             let (start, end) = (t.number()?, t.number()?);
             let room = t.last("room", MOST_ROOM)?;
             t.end()?;
-            Ok(ok().list(&port.px_miss(start, end, room)?))
+            Ok(ok().list(&side.px_miss(start, end, room)?))
         }
         b"px.ack" => {
             t.end()?;
-            let (handed_out, after) = port.px_ack()?;
+            let (handed_out, after) = side.px_ack()?;
             Ok(ok().and(handed_out).and(after))
         }
         b"px.setack" => {
             let count = t.number()?;
-            done(t, || port.px_setack(count))
+            done(t, || side.px_setack(count))
         }
         b"px.dump" => {
             t.end()?;
-            Ok(dumped(&port.px_look()?))
+            Ok(dumped(&side.px_look()?))
         }
-        b"px.end" => done(t, || port.px_end()),
+        b"px.end" => done(t, || side.px_end()),
         _ => no_command(),
     }
 }
 
-fn assembler<P: Port + ?Sized>(port: &mut P, name: &[u8], t: &mut Tokens) -> Reply<Said> {
+fn assembler<P: Commands + ?Sized>(side: &mut P, name: &[u8], t: &mut Tokens) -> Reply<Said> {
     t.name()?;
     match name {
         b"asm.new" => {
             let fragment_size = t.number()?;
             let reliable = t.one_of(b"reliable", true, b"besteffort", false)?;
             let place_size = t.number()?;
-            done(t, || port.asm_new(fragment_size, reliable, place_size))
+            done(t, || side.asm_new(fragment_size, reliable, place_size))
         }
         b"asm.frag" => {
             let fragment = Fragment {
                 time: t.number()?,
                 number: t.number()?,
-                size: t.number()?,
+                fragment_size: t.number()?,
                 data_size: t.number()?,
                 start: t.number()?,
                 count: t.number()?,
@@ -176,58 +176,58 @@ fn assembler<P: Port + ?Sized>(port: &mut P, name: &[u8], t: &mut Tokens) -> Rep
             };
             let area = t.last("area", MOST_AREA)?;
             t.end()?;
-            Ok(happened(&port.asm_frag(&fragment, area)?))
+            Ok(happened(&side.asm_frag(&fragment, area)?))
         }
         b"asm.clean" => {
             let cutoff = t.number()?;
             let room = t.last("room", MOST_ROOM)?;
             t.end()?;
-            Ok(ok().list(&port.asm_clean(cutoff, room)?))
+            Ok(ok().list(&side.asm_clean(cutoff, room)?))
         }
         b"asm.missing" => {
             let number = t.number()?;
             let room = t.last("room", MOST_ROOM)?;
             t.end()?;
-            Ok(ok().list(&port.asm_missing(number, room)?))
+            Ok(ok().list(&side.asm_missing(number, room)?))
         }
         b"asm.has" => {
             let number = t.number()?;
             t.end()?;
-            Ok(ok().and(u8::from(port.asm_has(number)?)))
+            Ok(ok().and(u8::from(side.asm_has(number)?)))
         }
         b"asm.view" => {
             let (place, length) = (t.number()?, t.number()?);
             t.end()?;
-            Ok(ok().and(hex(&port.asm_view(place, length)?)))
+            Ok(ok().and(hex(&side.asm_view(place, length)?)))
         }
         b"asm.places" => {
             t.end()?;
-            let places = port.asm_places()?;
+            let places = side.asm_places()?;
             let one = |said: Said, (number, place)| said.and(format_args!("{number}:{place}"));
             Ok(places.into_iter().fold(ok(), one))
         }
         b"asm.last" => {
             t.end()?;
-            Ok(match port.asm_last()? {
+            Ok(match side.asm_last()? {
                 Some((number, place, length)) => ok().and(number).and(place).and(length),
                 None => ok().and("-"),
             })
         }
         b"asm.dump" => {
             t.end()?;
-            Ok(port.asm_dump()?.iter().fold(ok(), in_assembly))
+            Ok(side.asm_dump()?.iter().fold(ok(), in_assembly))
         }
         b"asm.bytes" => {
             let (from, length): (usize, usize) = (t.number()?, t.number()?);
             t.end()?;
-            let area = port.asm_area()?;
+            let area = side.asm_area()?;
             let until = from.checked_add(length);
             match until.and_then(|until| area.get(from..until)) {
                 Some(bytes) => Ok(ok().and(hex(bytes))),
                 None => error("past the area's end"),
             }
         }
-        b"asm.end" => done(t, || port.asm_end()),
+        b"asm.end" => done(t, || side.asm_end()),
         _ => no_command(),
     }
 }
@@ -270,8 +270,8 @@ fn done(t: &Tokens, call: impl FnOnce() -> Reply<()>) -> Reply<Said> {
 }
 
 /// The answer to a call that changes the proxy: its state in short, and the forced step.
-fn changed<P: Port + ?Sized>(port: &mut P, forced: Forced) -> Reply<Said> {
-    let look = port.px_look()?;
+fn changed<P: Commands + ?Sized>(side: &mut P, forced: Forced) -> Reply<Said> {
+    let look = side.px_look()?;
     let mut sum = 0u64;
     for (number, time) in &look.tracked {
         let what = match time {

@@ -1,16 +1,16 @@
-//! The call protocol, shared by every program that speaks it: what can be asked (`port`), how a line is read
+//! The call protocol, shared by every program that speaks it: what can be asked (`commands`), how a line is read
 //! (`tokens`), how it is answered (`answer`), and the loop from input to output (`serve`). Beside it what the programs
 //! that compare and time share: seeded numbers (`random`), and where the port's replay program is (`replay_program`).
 
 mod answer;
-mod port;
+mod commands;
 mod random;
 mod replay_program;
 mod serve;
 mod tokens;
 
 pub use answer::answer;
-pub use port::*;
+pub use commands::*;
 pub use random::Random;
 pub use replay_program::replay_program;
 pub use serve::{serve, LONGEST_LINE};

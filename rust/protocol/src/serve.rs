@@ -3,13 +3,13 @@
 use std::io::{self, BufRead, BufReader, BufWriter, Read, Write};
 
 use crate::answer::answer;
-use crate::port::Port;
+use crate::commands::Commands;
 
 /// A longer line gets an error and is otherwise passed over, so that no line can use up the memory.
 pub const LONGEST_LINE: u64 = 1 << 25;
 
 /// Answers every line of the input. Each answer is flushed; in a batch, only where no more input has been read yet.
-pub fn serve<P: Port>(port: &mut P, input: impl Read, output: impl Write, batch: bool) -> io::Result<()> {
+pub fn serve<P: Commands>(side: &mut P, input: impl Read, output: impl Write, batch: bool) -> io::Result<()> {
     let mut input = BufReader::with_capacity(1 << 16, input);
     let mut output = BufWriter::with_capacity(1 << 16, output);
     let mut line = Vec::new();
@@ -20,9 +20,9 @@ pub fn serve<P: Port>(port: &mut P, input: impl Read, output: impl Write, batch:
         }
         if line.last() == Some(&b'\n') {
             line.pop();
-            writeln!(output, "{}", answer(port, &line))?;
+            writeln!(output, "{}", answer(side, &line))?;
         } else if (line.len() as u64) < LONGEST_LINE {
-            writeln!(output, "{}", answer(port, &line))?;
+            writeln!(output, "{}", answer(side, &line))?;
         } else {
             input.skip_until(b'\n')?;
             writeln!(output, "err a line too long")?;
@@ -36,7 +36,7 @@ pub fn serve<P: Port>(port: &mut P, input: impl Read, output: impl Write, batch:
 #[cfg(test)]
 mod tests {
     use super::*;
-    use crate::port::{Assembler, Numbers, Proxy, Sets};
+    use crate::commands::{Assembler, Numbers, Proxy, Sets};
 
     /// Has no call at all: a line that reads gets `err not here yet`.
     struct Nothing;
@@ -54,7 +54,7 @@ mod tests {
     }
 
     #[test]
-    fn well_formed_lines_reach_the_port() {
+    fn well_formed_lines_reach_their_command() {
         let lines = "num.write seq big -9223372036854775808
 num.write frag little 4294967295 room=0
 num.read seq big -

@@ -1,6 +1,6 @@
 //! A line's tokens, read one after the other; anything out of shape is an error in words and nothing more.
 
-use crate::port::{error, Reply, Room, Set, Stop, Width};
+use crate::commands::{error, Reply, Room, Set, Stop, Width};
 
 pub struct Tokens<'a> {
     left: Option<&'a [u8]>,

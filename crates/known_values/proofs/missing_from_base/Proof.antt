@@ -1,6 +1,6 @@
 -- `known_values::missing_from_base` meets its contract: set-up leaves a record by the rules, and each call keeps them.
 -- Assumes nothing.
-use Rattle.proxy_record.specs.Record.{Good}
+use Rattle.proxy_record.specs.Rules.{GoodProxy}
 use lib.Seq.{take-all}
 use mathlib.Core.Path.{subst}
 use native.Mathlib.Omega.{arith}
@@ -14,7 +14,7 @@ set-up-requires c κs = search needs
 received-changes-add-requires : tie.Need-received-changes-add-requires
 received-changes-add-requires c κs =
     let s = c .before .before .before .set-up in
-    subst Good (take-all 775 (s .last .0) (omega (arith, s .kept .0))) (s .ensures .1 (omega arith))
+    subst GoodProxy (take-all 775 (s .last .0) (omega (arith, s .kept .0))) (s .ensures .1 (omega arith))
 
 received-changes-add-requires-2 : tie.Need-received-changes-add-requires-2
 received-changes-add-requires-2 c κs = search needs

@@ -1,8 +1,9 @@
 -- `known_values::one_more` meets its contract: set-up leaves a record by the rules, as long as the words that were lent, and each
 -- call keeps them.
 -- Assumes nothing.
-use Rattle.fragment_assembler.specs.SetUp.{startedOf}
-use Rattle.assembly_record.specs.Rules.{Good}
+use Rattle.outcome.specs.Answers.{setUpSaid}
+use Rattle.assembly_record.specs.Sizes.{assemblerSize}
+use Rattle.assembly_record.specs.Rules.{GoodAssembler}
 use lib.Seq.{take-all}
 use mathlib.Core.Path.{subst, ap}
 use native.Mathlib.Omega.{arith}
@@ -28,7 +29,7 @@ returns c = search needs
 open-all-requires : tie.Need-open-all-requires
 open-all-requires c κs =
     let s = c .before .before .before .before .before .before .set-up in
-    subst Good (take-all 906 (s .last .0) (omega (arith, s .kept .0))) (s .ensures .good (ap startedOf (c .before .before .enum-told .given .1)))
+    subst GoodAssembler (take-all assemblerSize (s .last .0) (omega (arith, s .kept .0))) (s .ensures .good (ap setUpSaid (c .before .before .enum-told .given .1)))
 
 slice-aggregate-new-datafrag : tie.Need-slice-aggregate-new-datafrag
 slice-aggregate-new-datafrag c = search needs

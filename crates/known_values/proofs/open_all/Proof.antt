@@ -1,6 +1,6 @@
 -- `known_values::open_all` meets its contract: each call keeps the rules that the next one asks for.
 -- Assumes nothing.
-use Rattle.assembly_record.specs.Rules.{Good}
+use Rattle.assembly_record.specs.Rules.{GoodAssembler}
 use lib.ListN.{length}
 use mathlib.Core.Path.{_≡_, refl, _∙_}
 use Prim.Native.Nat.{_-_}
@@ -9,7 +9,7 @@ use Rattle.known_values.proofs.open_all.Statement.{statement}
 use Rattle.known_values.proofs.open_all.Tie as tie
 
 abbrev Inv-loop : tie.InvT-loop
-Inv-loop t₀ area₀ i₀ t4 t area i = (length t ≡ length t₀) × (length area ≡ length area₀) × Good t
+Inv-loop t₀ area₀ i₀ t4 t area i = (length t ≡ length t₀) × (length area ≡ length area₀) × GoodAssembler t
 
 abbrev μ-loop : tie.MeasureT-loop
 μ-loop t₀ area₀ i₀ t4 t area i = 129 - i

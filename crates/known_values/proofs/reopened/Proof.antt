@@ -1,7 +1,8 @@
 -- `known_values::reopened` meets its contract: set-up leaves a record by the rules, and each call keeps them.
 -- Assumes nothing.
-use Rattle.fragment_assembler.specs.SetUp.{startedOf}
-use Rattle.assembly_record.specs.Rules.{Good}
+use Rattle.outcome.specs.Answers.{setUpSaid}
+use Rattle.assembly_record.specs.Sizes.{assemblerSize}
+use Rattle.assembly_record.specs.Rules.{GoodAssembler}
 use lib.Seq.{take-all}
 use mathlib.Core.Path.{subst, ap, _∙_}
 use native.Mathlib.Omega.{arith}
@@ -30,7 +31,7 @@ slice-aggregate-new-datafrag c = search needs
 new-datafrag-requires : tie.Need-new-datafrag-requires
 new-datafrag-requires c κs =
     let s = c .before .before .before .before .before .before .before .set-up in
-    subst Good (take-all 906 (s .last .0) (omega (arith, s .kept .0))) (s .ensures .good (ap startedOf (c .before .before .before .enum-told .given .1)))
+    subst GoodAssembler (take-all assemblerSize (s .last .0) (omega (arith, s .kept .0))) (s .ensures .good (ap setUpSaid (c .before .before .before .enum-told .given .1)))
 
 slice-aggregate-say : tie.Need-slice-aggregate-say
 slice-aggregate-say c = search needs

@@ -7,7 +7,7 @@ use mathlib.Core.Bool.{false}
 use mathlib.Core.List.{List, [], _∷_}
 use lib.ListN.{length, set, length-append, length-set}
 use borrow.Author.Tests.{not-true, not-false}
-use Rattle.sequence_number.specs.Lent.{over}
+use Rattle.outcome.specs.Lent.{over}
 use Rattle.assembly_record.proofs.GapsLaws.{gaps-mono, gaps-gap, gaps-more, gaps-marked}
 use Rattle.assembly_record.specs.Marks.{marked, gaps}
 use Rattle.assembly_record.proofs.marks.list_gaps.Statement.{statement}

@@ -2,7 +2,7 @@
 use mathlib.Core.Path.{ap, _∙_}
 use borrow.Author.Needs.{needs}
 use Rattle.assembly_record.proofs.WordsLaws.{lent-as, row-is}
-use Rattle.assembly_record.specs.Rows.{ran}
+use Rattle.assembly_record.specs.Rows.{placeRan}
 use Rattle.assembly_record.specs.State.{Place}
 use Rattle.assembly_record.proofs.rows.run_at.Statement.{statement}
 use Rattle.assembly_record.proofs.rows.run_at.Tie as tie
@@ -39,7 +39,7 @@ returns c =
     let s = c .before .before .before .before .before in
     let a = s .args in
     lent-as (a .t .now) (a .seat) (s .pre .1 .0) (c .before .before .run-row .last .0) _ (s .pre .0) (c .before .before .run-row .kept .0)
-    (c .before .before .run-row .ensures ∙ ap (λ (p : Place). ran p (a .number) (a .time) (a .k) (a .n)) (row-is (a .t .now) (a .seat) (s .pre .1 .0)))
+    (c .before .before .run-row .ensures ∙ ap (λ (p : Place). placeRan p (a .number) (a .time) (a .k) (a .n)) (row-is (a .t .now) (a .seat) (s .pre .1 .0)))
 
 pub run-at-spec : {M : Type 1} → statement M
 run-at-spec =

@@ -7,19 +7,20 @@ use mathlib.Core.Logic.{⊎-elim}
 use lib.ListN.{take}
 use lib.Seq.{take-all}
 use borrow.Author.Needs.{needs}
+use Rattle.assembly_record.specs.Sizes.{placeCount}
 use Rattle.assembly_record.proofs.TableLaws.{highest-take}
 use Rattle.assembly_record.proofs.WordsLaws.{number-at, length-places}
-use Rattle.assembly_record.specs.State.{at}
+use Rattle.assembly_record.specs.State.{placeAt}
 use Rattle.assembly_record.specs.Table.{highestOf}
 use Rattle.assembly_record.specs.Words.{placesOf}
 use Rattle.assembly_record.proofs.table.highest.Statement.{statement}
 use Rattle.assembly_record.proofs.table.highest.Tie as tie
 
 abbrev Inv-loop : tie.InvT-loop
-Inv-loop t i₀ h₀ i h = (i ≤ 129) × (h ≡ highestOf (take i (placesOf t)))
+Inv-loop t i₀ h₀ i h = (i ≤ placeCount) × (h ≡ highestOf (take i (placesOf t)))
 
 abbrev μ-loop : tie.MeasureT-loop
-μ-loop t i₀ h₀ i h = 129 - i
+μ-loop t i₀ h₀ i h = placeCount - i
 
 loop-holds : tie.Need-loop-holds Inv-loop μ-loop
 loop-holds c = search needs
@@ -47,7 +48,7 @@ loop-again c =
     let w = c .before .before .before .before .args .t .now in
     let i = c .before .before .before .loop .i in
     let e = number-at w i (omega arith) in
-    let t : highestOf (take (i + 1) (placesOf w)) ≡ max (highestOf (take i (placesOf w))) (at (placesOf w) i .number) = ap (λ (k : ℕ). highestOf (take k (placesOf w))) (add-one i) ∙ highest-take (placesOf w) i (omega (arith, length-places w)) in
+    let t : highestOf (take (i + 1) (placesOf w)) ≡ max (highestOf (take i (placesOf w))) (placeAt (placesOf w) i .number) = ap (λ (k : ℕ). highestOf (take k (placesOf w))) (add-one i) ∙ highest-take (placesOf w) i (omega (arith, length-places w)) in
     (omega arith, ⊎-elim (λ x. omega (arith, e, t, x)) (λ x. omega (arith, e, t, x)) (c .if1 .came))
 
 returns : tie.Need-returns Inv-loop μ-loop

@@ -6,7 +6,7 @@ use lib.ListN.{drop}
 use borrow.Author.Needs.{needs}
 use Rattle.assembly_record.proofs.TableLaws.{lowest-last, lowest-drop}
 use Rattle.assembly_record.proofs.WordsLaws.{number-at, length-places}
-use Rattle.assembly_record.specs.State.{free}
+use Rattle.assembly_record.specs.State.{freePlace}
 use Rattle.assembly_record.specs.Table.{lowestOf}
 use Rattle.assembly_record.specs.Words.{placesOf}
 use Rattle.assembly_record.proofs.table.lowest.Statement.{statement}
@@ -33,7 +33,7 @@ shared-slice-read-h c = search needs
 loop-holds : tie.Need-loop-holds Inv-loop μ-loop
 loop-holds c =
     let w = c .before .args .t .now in
-    (omega arith, number-at w 128 (omega arith) ∙ sym (lowest-last (placesOf w) 128 free (length-places w)))
+    (omega arith, number-at w 128 (omega arith) ∙ sym (lowest-last (placesOf w) 128 freePlace (length-places w)))
 
 sub-i : tie.Need-sub-i Inv-loop μ-loop
 sub-i c = search needs
@@ -60,7 +60,7 @@ loop-again c =
       omega arith,
       omega (
         arith,
-        lowest-drop (placesOf w) i free (omega arith) (omega (arith, length-places w)),
+        lowest-drop (placesOf w) i freePlace (omega arith) (omega (arith, length-places w)),
         number-at w (i - 1) (omega arith),
         c .if1 .taken,
       ),
@@ -76,7 +76,7 @@ loop-again-2 c =
       omega arith,
       omega (
         arith,
-        lowest-drop (placesOf w) i free (omega arith) (omega (arith, length-places w)),
+        lowest-drop (placesOf w) i freePlace (omega arith) (omega (arith, length-places w)),
         number-at w (i - 1) (omega arith),
         c .if1 .left,
       ),

@@ -5,18 +5,19 @@ use mathlib.Core.Path.{_≡_, sym, _∙_}
 use lib.ListN.{length}
 use borrow.Author.Count.{below-more}
 use borrow.Author.Needs.{needs}
+use Rattle.assembly_record.specs.Sizes.{placeCount}
 use Rattle.assembly_record.proofs.TableLaws.{find-is, find-none}
 use Rattle.assembly_record.proofs.WordsLaws.{length-places, number-at}
-use Rattle.assembly_record.specs.State.{at}
+use Rattle.assembly_record.specs.State.{placeAt}
 use Rattle.assembly_record.specs.Words.{placesOf}
 use Rattle.assembly_record.proofs.table.seek.Statement.{statement}
 use Rattle.assembly_record.proofs.table.seek.Tie as tie
 
 abbrev Inv-loop : tie.InvT-loop
-Inv-loop t n i₀ i = (i ≤ 129) × ((j : ℕ) → j < i → at (placesOf t) j .number ≡ n → ⊥)
+Inv-loop t n i₀ i = (i ≤ placeCount) × ((j : ℕ) → j < i → placeAt (placesOf t) j .number ≡ n → ⊥)
 
 abbrev μ-loop : tie.MeasureT-loop
-μ-loop t n i₀ i = 129 - i
+μ-loop t n i₀ i = placeCount - i
 
 loop-holds : tie.Need-loop-holds Inv-loop μ-loop
 loop-holds c = (omega arith, λ j h. absurd (omega arith))
@@ -57,7 +58,7 @@ returns-2 : tie.Need-returns-2 Inv-loop μ-loop
 returns-2 c =
     let s = c .before .before in
     let w = s .args .t .now in
-    let i : c .before .loop .i ≡ 129 = omega arith in
+    let i : c .before .loop .i ≡ placeCount = omega arith in
     i ∙ sym (length-places w) ∙ sym (find-none (s .args .n) (placesOf w) (λ j l z. c .before .loop .inv .1 j (omega (arith, length-places w)) z))
 
 pub seek-spec : {M : Type 1} → statement M

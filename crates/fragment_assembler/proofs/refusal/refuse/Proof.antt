@@ -2,37 +2,39 @@
 use Prim.Native.Nat.{ℕ, _+_, _*_, _≤_, _<_}
 use native.Mathlib.Omega.{arith}
 use mathlib.Core.Path.{_≡_, ap, _∙_}
-use mathlib.Core.List.{[]}
 use lib.ListN.{length, getD}
 use borrow.Author.Needs.{needs}
+use Rattle.assembly_record.specs.Sizes.{placeCount, mostFragments, rowSize}
 use Rattle.fragment_assembler.proofs.RefusalLaws.{call-known, call-13, call-4, call-6, call-7, call-8, call-9, call-opens}
 use Rattle.assembly_record.proofs.FragmentsLaws.{fragments-le, fragments-above}
 use Rattle.assembly_record.proofs.RulesLaws.{good-size}
 use Rattle.assembly_record.proofs.WordsLaws.{size-at, length-places}
 use Rattle.assembly_record.specs.Fragments.{fragments}
-use Rattle.fragment_assembler.specs.Refusal.{Call, callOf, runRefusal, refusal}
-use Rattle.assembly_record.specs.State.{at}
+use Rattle.fragment_assembler.specs.Fragment.{FragmentHead, headWith}
+use Rattle.fragment_assembler.specs.Refusal.{runRefusal, fragmentRefusal}
+use Rattle.assembly_record.specs.State.{placeAt}
 use Rattle.assembly_record.specs.Table.{find}
-use Rattle.assembly_record.specs.Words.{stateOf, placesOf}
+use Rattle.assembly_record.specs.Words.{assemblerOf, placesOf}
 use Rattle.fragment_assembler.proofs.refusal.refuse.Statement.{statement}
 use Rattle.fragment_assembler.proofs.refusal.refuse.Tie as tie
 
-abbrev callAt : tie.Start → Call
-callAt s = callOf 0 (s .args .number) (s .args .size) (s .args .data-size) (s .args .start) (s .args .count) []
+abbrev headAt : tie.Start → FragmentHead
+headAt s =
+    headWith (s .args .number) (s .args .fragment-size) (s .args .data-size) (s .args .start) (s .args .count) (s .args .payload-length)
 
 abbrev startOf : tie.Else3 → tie.Start
 startOf e = e .before .before .before .before .before .before
 
 -- past the tests of 13, 4 and 6, with the number found
-knows : (e : tie.Else3) → startOf e .args .at < 129
-    → runRefusal (fragments (getD (startOf e .args .t .now) (3 + 7 * startOf e .args .at + 1) 0) (getD (startOf e .args .t .now) 0 0)) (startOf e .args .start) (startOf e .args .count)
-    ≡ refusal (stateOf (startOf e .args .t .now)) (startOf e .args .long) (callAt (startOf e))
+knows : (e : tie.Else3) → startOf e .args .at < placeCount
+    → runRefusal (fragments (getD (startOf e .args .t .now) (3 + rowSize * startOf e .args .at + 1) 0) (getD (startOf e .args .t .now) 0 0)) (startOf e .args .start) (startOf e .args .count)
+    ≡ fragmentRefusal (assemblerOf (startOf e .args .t .now)) (startOf e .args .long) (headAt (startOf e))
 knows e l =
     let s = startOf e in
     let w = s .args .t .now in
     ap (λ (d : ℕ). runRefusal (fragments d (getD w 0 0)) (s .args .start) (s .args .count)) (size-at w (s .args .at) l)
-    ∙ ap (λ (j : ℕ). runRefusal (fragments (at (placesOf w) j .size) (getD w 0 0)) (s .args .start) (s .args .count)) (s .pre .1 .0)
-    ∙ call-known (stateOf w) (s .args .long) (callAt s) (e .before .before .if1 .left) (e .before .if2 .left) (s .pre .1 .1) (e .if3 .left) (omega (arith, s .pre .1 .0, length-places w))
+    ∙ ap (λ (j : ℕ). runRefusal (fragments (placeAt (placesOf w) j .size) (getD w 0 0)) (s .args .start) (s .args .count)) (s .pre .1 .0)
+    ∙ call-known (assemblerOf w) (s .args .long) (headAt s) (e .before .before .if1 .left) (e .before .if2 .left) (s .pre .1 .1) (e .if3 .left) (omega (arith, s .pre .1 .0, length-places w))
 
 -- the number is not found
 none : (e : tie.Else4) → length (placesOf (startOf (e .before) .args .t .now)) ≤ find (startOf (e .before) .args .number) (placesOf (startOf (e .before) .args .t .now))
@@ -48,15 +50,15 @@ mul-whole : tie.Need-mul-whole
 mul-whole c = search needs
 
 returns : tie.Need-returns
-returns c = call-13 (stateOf (c .before .before .before .before .args .t .now)) _ _ (c .if1 .taken)
+returns c = call-13 (assemblerOf (c .before .before .before .before .args .t .now)) _ _ (c .if1 .taken)
 
 returns-2 : tie.Need-returns-2
-returns-2 c = call-4 (stateOf (c .before .before .before .before .before .args .t .now)) _ (callAt (c .before .before .before .before .before)) (c .before .if1 .left) (c .if2 .taken)
+returns-2 c = call-4 (assemblerOf (c .before .before .before .before .before .args .t .now)) _ (headAt (c .before .before .before .before .before)) (c .before .if1 .left) (c .if2 .taken)
 
 returns-3 : tie.Need-returns-3
 returns-3 c =
     let s = c .before .before .before .before .before .before in
-    call-6 (stateOf (s .args .t .now)) (s .args .long) (callAt s) (c .before .before .if1 .left) (c .before .if2 .left) (s .pre .1 .1) (c .if3 .taken)
+    call-6 (assemblerOf (s .args .t .now)) (s .args .long) (headAt s) (c .before .before .if1 .left) (c .before .if2 .left) (s .pre .1 .1) (c .if3 .taken)
 
 mul-d : tie.Need-mul-d
 mul-d c = search needs
@@ -85,13 +87,13 @@ returns-5 : tie.Need-returns-5
 returns-5 c =
     let e = c .before .before in
     let s = startOf e in
-    call-7 (stateOf (s .args .t .now)) (s .args .long) (callAt s) (e .before .before .if1 .left) (e .before .if2 .left) (s .pre .1 .1) (e .if3 .left) (none (c .before)) (c .if5 .taken)
+    call-7 (assemblerOf (s .args .t .now)) (s .args .long) (headAt s) (e .before .before .if1 .left) (e .before .if2 .left) (s .pre .1 .1) (e .if3 .left) (none (c .before)) (c .if5 .taken)
 
 returns-6 : tie.Need-returns-6
 returns-6 c =
     let e = c .before .before .before in
     let s = startOf e in
-    call-8 (stateOf (s .args .t .now)) (s .args .long) (callAt s) (e .before .before .if1 .left) (e .before .if2 .left) (s .pre .1 .1) (e .if3 .left) (none (c .before .before)) (c .before .if5 .left)
+    call-8 (assemblerOf (s .args .t .now)) (s .args .long) (headAt s) (e .before .before .if1 .left) (e .before .if2 .left) (s .pre .1 .1) (e .if3 .left) (none (c .before .before)) (c .before .if5 .left)
     (c .if6 .taken)
 
 mul-if7 : tie.Need-mul-if7
@@ -103,8 +105,8 @@ returns-7 : tie.Need-returns-7
 returns-7 c =
     let e = c .before .before .before .before in
     let s = startOf e in
-    call-9 (stateOf (s .args .t .now)) (s .args .long) (callAt s) (e .before .before .if1 .left) (e .before .if2 .left) (s .pre .1 .1) (e .if3 .left) (none (c .before .before .before)) (c .before .before .if5 .left)
-    (c .before .if6 .left) (fragments-above (s .args .data-size) (getD (s .args .t .now) 0 0) 256 (s .pre .0 .ok .some) (c .if7 .taken))
+    call-9 (assemblerOf (s .args .t .now)) (s .args .long) (headAt s) (e .before .before .if1 .left) (e .before .if2 .left) (s .pre .1 .1) (e .if3 .left) (none (c .before .before .before)) (c .before .before .if5 .left)
+    (c .before .if6 .left) (fragments-above (s .args .data-size) (getD (s .args .t .now) 0 0) mostFragments (s .pre .0 .ok .some) (c .if7 .taken))
 
 refuse-run-requires-2 : tie.Need-refuse-run-requires-2
 refuse-run-requires-2 c κs =
@@ -116,8 +118,8 @@ returns-8 c =
     let e = c .before .before .before .before .before in
     let s = startOf e in
     c .refuse-run2 .ensures
-    ∙ call-opens (stateOf (s .args .t .now)) (s .args .long) (callAt s) (e .before .before .if1 .left) (e .before .if2 .left) (s .pre .1 .1) (e .if3 .left) (none (c .before .before .before .before)) (c .before .before .before .if5 .left)
-    (c .before .before .if6 .left) (fragments-le (s .args .data-size) (getD (s .args .t .now) 0 0) 256 (s .pre .0 .ok .some) (omega (arith, c .before .if7 .left)))
+    ∙ call-opens (assemblerOf (s .args .t .now)) (s .args .long) (headAt s) (e .before .before .if1 .left) (e .before .if2 .left) (s .pre .1 .1) (e .if3 .left) (none (c .before .before .before .before)) (c .before .before .before .if5 .left)
+    (c .before .before .if6 .left) (fragments-le (s .args .data-size) (getD (s .args .t .now) 0 0) mostFragments (s .pre .0 .ok .some) (omega (arith, c .before .if7 .left)))
 
 pub refuse-spec : {M : Type 1} → statement M
 refuse-spec =

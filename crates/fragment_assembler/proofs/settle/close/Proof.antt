@@ -2,7 +2,7 @@
 use native.Mathlib.Omega.{arith}
 use mathlib.Core.Path.{sym, _∙_}
 use borrow.Author.Needs.{needs}
-use Rattle.fragment_assembler.proofs.InnerLaws.{close-size, ends-whole, ends-not, ends-kept}
+use Rattle.fragment_assembler.proofs.EndsLaws.{close-size, ends-whole, ends-not, ends-kept}
 use Rattle.assembly_record.proofs.WordsLaws.{number-at, size-at}
 use Rattle.fragment_assembler.proofs.settle.close.Statement.{statement}
 use Rattle.fragment_assembler.proofs.settle.close.Tie as tie

@@ -3,7 +3,7 @@ use native.Mathlib.Omega.{arith}
 use lib.ListN.{getD}
 use lib.Dec.{eqb}
 use borrow.Author.Needs.{needs}
-use Rattle.fragment_assembler.proofs.InnerLaws.{ends-kept, victim-in, ends-dropped}
+use Rattle.fragment_assembler.proofs.EndsLaws.{ends-kept, victim-in, ends-dropped}
 use Rattle.fragment_assembler.proofs.settle.drop_one.Statement.{statement}
 use Rattle.fragment_assembler.proofs.settle.drop_one.Tie as tie
 

@@ -2,14 +2,14 @@
 use native.Mathlib.Omega.{arith}
 use lib.ListN.{length, getD}
 use borrow.Author.Needs.{needs}
-use Rattle.fragment_assembler.proofs.InnerLaws.{run-off, small-mul, run-room, run-end, run-brings, run-closes, worked}
+use Rattle.fragment_assembler.proofs.WorkedLaws.{run-off, small-mul, run-room, run-end, run-brings, run-closes, worked}
 use Rattle.assembly_record.proofs.WordsLaws.{size-at}
-use Rattle.fragment_assembler.specs.Refusal.{Call, callOf}
+use Rattle.fragment_assembler.specs.Fragment.{Run, runWith}
 use Rattle.fragment_assembler.proofs.settle.insert_frags.Statement.{statement}
 use Rattle.fragment_assembler.proofs.settle.insert_frags.Tie as tie
 
-abbrev callAt : tie.Start → Call
-callAt s = callOf (s .args .time) (s .args .number) 0 0 (s .args .start) (s .args .count) (s .args .payload .now)
+abbrev runAt : tie.Start → Run
+runAt s = runWith (s .args .number) (s .args .time) (s .args .start) (s .args .count) (s .args .payload .now)
 
 slice-read-f : tie.Need-slice-read-f
 slice-read-f c = search needs
@@ -41,12 +41,12 @@ cast-k c = search needs
 mul-o : tie.Need-mul-o
 mul-o c =
     let s = c .before .before .before .before .before .before in
-    omega (arith, run-off (s .args .t .now) (length (s .args .area .now)) (s .args .seat) (s .args .opened) (callAt s) (s .pre), s .pre .sample .most, s .pre .placeSize)
+    omega (arith, run-off (s .args .t .now) (length (s .args .area .now)) (s .args .seat) (s .args .opened) (runAt s) (s .pre), s .pre .sample .most, s .pre .placeSize)
 
 sub-less : tie.Need-sub-less
 sub-less c =
     let s = c .before .before .before .before .before .before in
-    omega (arith, run-off (s .args .t .now) (length (s .args .area .now)) (s .args .seat) (s .args .opened) (callAt s) (s .pre), size-at (s .args .t .now) (s .args .seat) (s .pre .within))
+    omega (arith, run-off (s .args .t .now) (length (s .args .area .now)) (s .args .seat) (s .args .opened) (runAt s) (s .pre), size-at (s .args .t .now) (s .args .seat) (s .pre .within))
 
 less-requires : tie.Need-less-requires
 less-requires c κs = search needs
@@ -62,18 +62,18 @@ less-requires-2 c κs = search needs
 mul-copy-at : tie.Need-mul-copy-at
 mul-copy-at c =
     let s = c .before .before .before .before .before .before .before .before .before in
-    omega (arith, run-room (s .args .t .now) (length (s .args .area .now)) (s .args .seat) (s .args .opened) (callAt s) (s .pre), s .good .1 .0 .0)
+    omega (arith, run-room (s .args .t .now) (length (s .args .area .now)) (s .args .seat) (s .args .opened) (runAt s) (s .pre), s .good .1 .0 .0)
 
 add-copy-at : tie.Need-add-copy-at
 add-copy-at c =
     let s = c .before .before .before .before .before .before .before .before .before in
-    omega (arith, run-off (s .args .t .now) (length (s .args .area .now)) (s .args .seat) (s .args .opened) (callAt s) (s .pre), run-room (s .args .t .now) (length (s .args .area .now)) (s .args .seat) (s .args .opened) (callAt s) (s .pre), s .good .1 .0 .0)
+    omega (arith, run-off (s .args .t .now) (length (s .args .area .now)) (s .args .seat) (s .args .opened) (runAt s) (s .pre), run-room (s .args .t .now) (length (s .args .area .now)) (s .args .seat) (s .args .opened) (runAt s) (s .pre), s .good .1 .0 .0)
 
 copy-at-requires : tie.Need-copy-at-requires
 copy-at-requires c κs =
     let s = c .before .before .before .before .before .before .before .before .before in
-    run-end (s .args .t .now) (length (s .args .area .now)) (s .args .seat) (s .args .opened) (callAt s) (s .pre) (c .before .less2 .result)
-    (run-brings (s .args .t .now) (length (s .args .area .now)) (s .args .seat) (s .args .opened) (callAt s) (s .pre) _ (c .before .before .less .result) _ (size-at (s .args .t .now) (s .args .seat) (s .pre .within)) (c .before .before .less .ensures) (c .before .less2 .ensures))
+    run-end (s .args .t .now) (length (s .args .area .now)) (s .args .seat) (s .args .opened) (runAt s) (s .pre) (c .before .less2 .result)
+    (run-brings (s .args .t .now) (length (s .args .area .now)) (s .args .seat) (s .args .opened) (runAt s) (s .pre) _ (c .before .before .less .result) _ (size-at (s .args .t .now) (s .args .seat) (s .pre .within)) (c .before .before .less .ensures) (c .before .less2 .ensures))
 
 run-at-requires : tie.Need-run-at-requires
 run-at-requires c κs = search needs
@@ -81,7 +81,7 @@ run-at-requires c κs = search needs
 close-requires : tie.Need-close-requires
 close-requires c κs =
     let s = c .before .before .before .before .before .before .before .before .before .before .before .before .before .before .before .before .before in
-    run-closes (s .args .t .now) (length (s .args .area .now)) (s .args .seat) (s .args .opened) (callAt s) (s .pre) _ (c .before .before .before .run-at .ensures)
+    run-closes (s .args .t .now) (length (s .args .area .now)) (s .args .seat) (s .args .opened) (runAt s) (s .pre) _ (c .before .before .before .run-at .ensures)
 
 same-length : tie.Need-same-length
 same-length c = search needs
@@ -92,8 +92,8 @@ same-length-2 c = search needs
 returns : tie.Need-returns
 returns c =
     let s = c .before .before .before .before .before .before .before .before .before .before .before .before .before .before .before .before .before .before .before .before in
-    worked (s .args .t .now) (length (s .args .area .now)) (s .args .seat) (s .args .opened) (callAt s) (s .pre) _ (c .before .before .before .before .before .before .run-at .ensures) (s .args .area .now) _ _ (c .before .before .before .before .before .before .before .before .before .before .before .before .less2 .result) _
-    (run-brings (s .args .t .now) (length (s .args .area .now)) (s .args .seat) (s .args .opened) (callAt s) (s .pre) _ (c .before .before .before .before .before .before .before .before .before .before .before .before .before .less .result) _ (size-at (s .args .t .now) (s .args .seat) (s .pre .within)) (c .before .before .before .before .before .before .before .before .before .before .before .before .before .less .ensures) (c .before .before .before .before .before .before .before .before .before .before .before .before .less2 .ensures))
+    worked (s .args .t .now) (length (s .args .area .now)) (s .args .seat) (s .args .opened) (runAt s) (s .pre) _ (c .before .before .before .before .before .before .run-at .ensures) (s .args .area .now) _ _ (c .before .before .before .before .before .before .before .before .before .before .before .before .less2 .result) _
+    (run-brings (s .args .t .now) (length (s .args .area .now)) (s .args .seat) (s .args .opened) (runAt s) (s .pre) _ (c .before .before .before .before .before .before .before .before .before .before .before .before .before .less .result) _ (size-at (s .args .t .now) (s .args .seat) (s .pre .within)) (c .before .before .before .before .before .before .before .before .before .before .before .before .before .less .ensures) (c .before .before .before .before .before .before .before .before .before .before .before .before .less2 .ensures))
     (c .before .before .before .before .before .before .before .before .before .before .copy-at .ensures) (c .before .before .close .ensures)
 
 pub insert-frags-spec : {M : Type 1} → statement M

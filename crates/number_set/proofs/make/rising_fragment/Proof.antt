@@ -1,7 +1,7 @@
 -- `number_set::make::rising_fragment` meets its contract: the first i elements rise.
 -- Assumes nothing.
 use Rattle.number_set.proofs.MakeLaws.{risingTo, rising-more, rising-short, rising-fails, rising-ends}
-use Rattle.sequence_number.specs.Kind.{fragment}
+use Rattle.sequence_number.specs.Kind.{fragmentNumber}
 use borrow.Author.Tests.{lt-ltb, le-ltb}
 use native.Mathlib.Omega.{arith}
 use mathlib.Core.Bool.{true}
@@ -12,13 +12,13 @@ use Rattle.number_set.proofs.make.rising_fragment.Statement.{statement}
 use Rattle.number_set.proofs.make.rising_fragment.Tie as tie
 
 abbrev Inv-loop : tie.InvT-loop
-Inv-loop list n i₀ i = (i ≤ n) × (risingTo (fragment .below) (fragment .nought) list i ≡ true)
+Inv-loop list n i₀ i = (i ≤ n) × (risingTo (fragmentNumber .below) (fragmentNumber .nought) list i ≡ true)
 
 abbrev μ-loop : tie.MeasureT-loop
 μ-loop list n i₀ i = n - i
 
 returns : tie.Need-returns Inv-loop μ-loop
-returns c = rising-short fragment (c .before .args .list .now) (c .if1 .taken)
+returns c = rising-short fragmentNumber (c .before .args .list .now) (c .if1 .taken)
 
 sub-n : tie.Need-sub-n Inv-loop μ-loop
 sub-n c = search needs
@@ -48,15 +48,15 @@ loop-less : tie.Need-loop-less Inv-loop μ-loop
 loop-less c = search needs
 
 loop-again : tie.Need-loop-again Inv-loop μ-loop
-loop-again c = (omega arith, rising-more (fragment .below) (fragment .nought) (c .before .before .before .before .before .before .args .list .now) (c .before .before .before .before .loop .i) (c .before .before .before .before .loop .inv .1) (lt-ltb _ _ (c .if2 .taken)))
+loop-again c = (omega arith, rising-more (fragmentNumber .below) (fragmentNumber .nought) (c .before .before .before .before .before .before .args .list .now) (c .before .before .before .before .loop .i) (c .before .before .before .before .loop .inv .1) (lt-ltb _ _ (c .if2 .taken)))
 
 returns-2 : tie.Need-returns-2 Inv-loop μ-loop
 returns-2 c =
     let xs = c .before .before .before .before .before .before .args .list .now in
-    rising-fails fragment xs (c .before .before .before .before .loop .i) (c .before .before .before .loop-test .taken) (le-ltb _ _ (c .if2 .left))
+    rising-fails fragmentNumber xs (c .before .before .before .before .loop .i) (c .before .before .before .loop-test .taken) (le-ltb _ _ (c .if2 .left))
 
 returns-3 : tie.Need-returns-3 Inv-loop μ-loop
-returns-3 c = rising-ends fragment (c .before .before .before .args .list .now) (c .before .loop .i) (omega arith) (c .before .loop .inv .1)
+returns-3 c = rising-ends fragmentNumber (c .before .before .before .args .list .now) (c .before .loop .i) (omega arith) (c .before .loop .inv .1)
 
 pub rising-fragment-spec : {M : Type 1} → statement M
 rising-fragment-spec =

@@ -1,7 +1,7 @@
 -- `number_set::make::rising_sequence` meets its contract: the first i elements rise.
 -- Assumes nothing.
 use Rattle.number_set.proofs.MakeLaws.{risingTo, rising-more, rising-short, rising-fails, rising-ends}
-use Rattle.sequence_number.specs.Kind.{sequence}
+use Rattle.sequence_number.specs.Kind.{sequenceNumber}
 use Rattle.sequence_number.proofs.SignedLaws.{test-back}
 use lib.IntN.{pos}
 use lib.ListN.{getD}
@@ -15,13 +15,13 @@ use Rattle.number_set.proofs.make.rising_sequence.Statement.{statement}
 use Rattle.number_set.proofs.make.rising_sequence.Tie as tie
 
 abbrev Inv-loop : tie.InvT-loop
-Inv-loop list n i₀ i = (i ≤ n) × (risingTo (sequence .below) (sequence .nought) list i ≡ true)
+Inv-loop list n i₀ i = (i ≤ n) × (risingTo (sequenceNumber .below) (sequenceNumber .nought) list i ≡ true)
 
 abbrev μ-loop : tie.MeasureT-loop
 μ-loop list n i₀ i = n - i
 
 returns : tie.Need-returns Inv-loop μ-loop
-returns c = rising-short sequence (c .before .args .list .now) (c .if1 .taken)
+returns c = rising-short sequenceNumber (c .before .args .list .now) (c .if1 .taken)
 
 sub-n : tie.Need-sub-n Inv-loop μ-loop
 sub-n c = search needs
@@ -51,15 +51,15 @@ loop-less : tie.Need-loop-less Inv-loop μ-loop
 loop-less c = search needs
 
 loop-again : tie.Need-loop-again Inv-loop μ-loop
-loop-again c = (omega arith, rising-more (sequence .below) (sequence .nought) (c .before .before .before .before .before .before .args .list .now) (c .before .before .before .before .loop .i) (c .before .before .before .before .loop .inv .1) (test-back (getD (c .before .before .before .before .before .before .args .list .now) (c .before .before .before .before .loop .i) (pos 0)) (getD (c .before .before .before .before .before .before .args .list .now) (c .before .before .before .before .loop .i + 1) (pos 0)) (c .before .before .a .given) (c .before .b .given) (c .if2 .taken)))
+loop-again c = (omega arith, rising-more (sequenceNumber .below) (sequenceNumber .nought) (c .before .before .before .before .before .before .args .list .now) (c .before .before .before .before .loop .i) (c .before .before .before .before .loop .inv .1) (test-back (getD (c .before .before .before .before .before .before .args .list .now) (c .before .before .before .before .loop .i) (pos 0)) (getD (c .before .before .before .before .before .before .args .list .now) (c .before .before .before .before .loop .i + 1) (pos 0)) (c .before .before .a .given) (c .before .b .given) (c .if2 .taken)))
 
 returns-2 : tie.Need-returns-2 Inv-loop μ-loop
 returns-2 c =
     let xs = c .before .before .before .before .before .before .args .list .now in
-    rising-fails sequence xs (c .before .before .before .before .loop .i) (c .before .before .before .loop-test .taken) (test-back (getD (c .before .before .before .before .before .before .args .list .now) (c .before .before .before .before .loop .i) (pos 0)) (getD (c .before .before .before .before .before .before .args .list .now) (c .before .before .before .before .loop .i + 1) (pos 0)) (c .before .before .a .given) (c .before .b .given) (c .if2 .left))
+    rising-fails sequenceNumber xs (c .before .before .before .before .loop .i) (c .before .before .before .loop-test .taken) (test-back (getD (c .before .before .before .before .before .before .args .list .now) (c .before .before .before .before .loop .i) (pos 0)) (getD (c .before .before .before .before .before .before .args .list .now) (c .before .before .before .before .loop .i + 1) (pos 0)) (c .before .before .a .given) (c .before .b .given) (c .if2 .left))
 
 returns-3 : tie.Need-returns-3 Inv-loop μ-loop
-returns-3 c = rising-ends sequence (c .before .before .before .args .list .now) (c .before .loop .i) (omega arith) (c .before .loop .inv .1)
+returns-3 c = rising-ends sequenceNumber (c .before .before .before .args .list .now) (c .before .loop .i) (omega arith) (c .before .loop .inv .1)
 
 pub rising-sequence-spec : {M : Type 1} → statement M
 rising-sequence-spec =

@@ -8,23 +8,11 @@ use Rattle.number_set.proofs.set.measure.Tie as tie
 returns : tie.Need-returns
 returns c = rw (lt-ltb 256 _ (c .if1 .taken))
 
-add-t4 : tie.Need-add-t4
-add-t4 c = search needs
-
-add-t5 : tie.Need-add-t5
-add-t5 c = search needs
-
-cast-t7 : tie.Need-cast-t7
-cast-t7 c = search needs
-
-mul-t8 : tie.Need-mul-t8
-mul-t8 c = search needs
-
-add-t9 : tie.Need-add-t9
-add-t9 c = search needs
+set-length-requires : tie.Need-set-length-requires
+set-length-requires c κs = search needs
 
 returns-2 : tie.Need-returns-2
-returns-2 c = rw (le-ltb 256 _ (c .if1 .left))
+returns-2 c = rw (le-ltb 256 _ (c .before .if1 .left), c .set-length .ensures)
 
 pub measure-spec : {M : Type 1} → statement M
-measure-spec = tie.close (tie.spec returns add-t4 add-t5 cast-t7 mul-t8 add-t9 returns-2)
+measure-spec = tie.close (tie.spec returns set-length-requires returns-2)

@@ -9,10 +9,10 @@ use lib.ListN.{length}
 use lib.Dec.{ltb}
 use borrow.Author.Needs.{needs}
 use borrow.Author.Tests.{lt-ltb, le-ltb}
-use Rattle.number_set.specs.Bitmap.{positions}
-use Rattle.number_set.specs.Walk.{anyPast}
-use Rattle.number_set.proofs.PositionLaws.{length-positions, length-more, positions-no}
-use Rattle.number_set.proofs.WalkLaws.{survey-past, survey-done, past-more}
+use Rattle.bitmap.specs.Bitmap.{positions, anyPast}
+use Rattle.bitmap.proofs.PositionLaws.{length-positions, length-more, positions-no}
+use Rattle.number_set.proofs.WalkLaws.{survey-past, survey-done}
+use Rattle.bitmap.proofs.PastLaws.{past-more}
 use Rattle.number_set.proofs.walk.survey.Statement.{statement}
 use Rattle.number_set.proofs.walk.survey.Tie as tie
 

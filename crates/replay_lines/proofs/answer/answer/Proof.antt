@@ -1,7 +1,7 @@
 -- `replay_lines::answer::answer` meets its contract: a line that does not read leaves the record, any other is a frame. Assumes nothing.
 use mathlib.Core.Path.{sym, ap, _∙_}
 use borrow.Author.Needs.{needs}
-use Rattle.replay_lines.specs.Frame.{readOf}
+use Rattle.replay_lines.specs.Frame.{parsedSaid}
 use Rattle.replay_lines.proofs.AnswerLaws.{did-nothing}
 use Rattle.replay_lines.proofs.answer.answer.Statement.{statement}
 use Rattle.replay_lines.proofs.answer.answer.Tie as tie
@@ -47,7 +47,7 @@ same-length-5 : tie.Need-same-length-5
 same-length-5 c = search needs
 
 returns-2 : tie.Need-returns-2
-returns-2 c = (rw (sym (ap readOf (c .before .before .before .before .before .before .before .before .before .before .frame .given .1)) ∙ c .before .before .before .before .before .before .before .before .before .before .before .before .parse .ensures) at (c .before .before .before .before .before .answer-frame .ensures .0), c .before .before .before .before .before .answer-frame .ensures .1)
+returns-2 c = (rw (sym (ap parsedSaid (c .before .before .before .before .before .before .before .before .before .before .frame .given .1)) ∙ c .before .before .before .before .before .before .before .before .before .before .before .before .parse .ensures) at (c .before .before .before .before .before .answer-frame .ensures .0), c .before .before .before .before .before .answer-frame .ensures .1)
 
 pub answer-spec : {M : Type 1} → statement M
 answer-spec =

@@ -2,7 +2,7 @@
 use native.Mathlib.Omega.{arith}
 use mathlib.Core.List.{[], _∷_}
 use borrow.Author.Needs.{needs}
-use Rattle.replay_lines.proofs.DecimalLaws.{word-most, begins, goes-on-one}
+use Rattle.line_text.proofs.DecimalLaws.{word-most, begun-first, goes-on-one}
 use Rattle.replay_lines.proofs.answer.put_head.Statement.{statement}
 use Rattle.replay_lines.proofs.answer.put_head.Tie as tie
 
@@ -22,7 +22,7 @@ returns : tie.Need-returns
 returns c =
     let out = c .before .before .before .before .before .before .before .before .before .before .before .before .before .args .out .now in
     let k = c .before .before .before .before .before .before .before .before .before .before .before .before .before .args .kind in
-    let a = begins out _ _ k (c .before .before .before .before .before .before .before .before .before .before .put-number .ensures .0) (c .before .before .before .before .before .before .before .before .before .before .put-number .ensures .1) in
+    let a = begun-first out _ _ k (c .before .before .before .before .before .before .before .before .before .before .put-number .ensures .0) (c .before .before .before .before .before .before .before .before .before .before .put-number .ensures .1) in
     let d = goes-on-one out _ _ _ _ k _ [] a (c .before .before .before .before .before .before .put-next .ensures .0) (c .before .before .before .before .before .before .put-next .ensures .1) in
     goes-on-one out _ _ _ _ k _ (c .before .before .before .before .before .before .before .before .before .before .before .before .before .args .refusal ∷ []) d (c .before .before .put-next2 .ensures .0) (c .before .before .put-next2 .ensures .1)
 

@@ -5,8 +5,8 @@ use mathlib.Core.List.{[], _∷_, map}
 use lib.ListN.{length, take, length-set}
 use borrow.Author.Needs.{needs}
 use Rattle.sequence_number.specs.Number.{natOf}
-use Rattle.replay_lines.proofs.DecimalLaws.{head-most, count-most, goes-on, goes-on-one}
-use Rattle.replay_lines.proofs.AnswerLaws.{ends}
+use Rattle.line_text.proofs.DecimalLaws.{goes-on, goes-on-one}
+use Rattle.replay_lines.proofs.AnswerLaws.{head-most, count-most, ends}
 use Rattle.replay_lines.proofs.answer.put_missing.Statement.{statement}
 use Rattle.replay_lines.proofs.answer.put_missing.Tie as tie
 

@@ -4,7 +4,7 @@ use native.Mathlib.Omega.{arith}
 use mathlib.Core.List.{[], _∷_}
 use lib.ListN.{length}
 use borrow.Author.Needs.{needs}
-use Rattle.replay_lines.proofs.DecimalLaws.{word-most, length-head}
+use Rattle.line_text.proofs.DecimalLaws.{word-most, length-head}
 use Rattle.replay_lines.proofs.AnswerLaws.{ends}
 use Rattle.replay_lines.proofs.answer.put_short.Statement.{statement}
 use Rattle.replay_lines.proofs.answer.put_short.Tie as tie

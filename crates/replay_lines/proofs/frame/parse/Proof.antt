@@ -3,7 +3,7 @@ use native.Mathlib.Omega.{arith}
 use mathlib.Core.Path.{sym, ap, _∙_}
 use borrow.Author.Tests.{not-true, not-false}
 use borrow.Author.Needs.{needs}
-use Rattle.replay_lines.specs.Frame.{readOf, frameOf}
+use Rattle.replay_lines.specs.Frame.{parsedSaid, frameOf}
 use Rattle.replay_lines.proofs.FrameLaws.{parsed-length, parsed-digit, parsed-frame}
 use Rattle.replay_lines.proofs.frame.parse.Statement.{statement}
 use Rattle.replay_lines.proofs.frame.parse.Tie as tie
@@ -31,8 +31,8 @@ frame-of-requires c κs = search needs
 
 returns-3 : tie.Need-returns-3
 returns-3 c =
-    ap readOf (c .frame-of .ensures)
-    ∙ (λ i. readOf (frameOf (c .before .before .before .value-at .ensures i) (c .before .before .value-at2 .ensures i) (c .before .value-at3 .ensures i)))
+    ap parsedSaid (c .frame-of .ensures)
+    ∙ (λ i. parsedSaid (frameOf (c .before .before .before .value-at .ensures i) (c .before .before .value-at2 .ensures i) (c .before .value-at3 .ensures i)))
     ∙ parsed-frame _ (c .before .before .before .before .before .before .if1 .left) (sym (c .before .before .before .before .before .all-hex .ensures) ∙ not-false _ (c .before .before .before .before .if2 .left))
 
 pub parse-spec : {M : Type 1} → statement M

@@ -7,7 +7,7 @@ use borrow.Author.Needs.{needs}
 use Rattle.sequence_number.specs.Number.{natOf}
 use Rattle.sequence_number.proofs.NumberLaws.{nat-top, nat-passed}
 use Rattle.sequence_number.proofs.SignedLaws.{test-back}
-use Rattle.proxy_core.proofs.RangeStepLaws.{range-refused, range-keeps, range-order, range-skips, range-above-base, range-puts}
+use Rattle.writer_proxy.proofs.CallsInPlace.{range-refused, range-keeps, range-order, range-skips, range-above-base, range-puts}
 use Rattle.writer_proxy.proofs.irrelevant.irrelevant_changes_range.Statement.{statement}
 use Rattle.writer_proxy.proofs.irrelevant.irrelevant_changes_range.Tie as tie
 

@@ -4,11 +4,14 @@ use native.Mathlib.Omega.{arith}
 use mathlib.Core.Path.{refl, sym}
 use borrow.Author.Needs.{needs}
 use Rattle.proxy_record.specs.State.{cap}
-use Rattle.proxy_record.specs.Record.{stateOf}
-use Rattle.proxy_core.specs.declared.Report.the-variants.{Done}
-use Rattle.proxy_core.specs.Calls.{refuses, irrelevantAt, irrelevant}
-use Rattle.proxy_core.proofs.CallsLaws.{irrelevant-old, irrelevant-new}
-use Rattle.proxy_core.proofs.StepLaws.{answered, base-word, taken-below, taken-is, taken-not, irrelevant-keeps}
+use Rattle.proxy_record.specs.Words.{proxyOf}
+use Rattle.proxy_steps.specs.declared.Report.the-variants.{Done}
+use Rattle.proxy_steps.specs.Steps.{refusedProxy}
+use Rattle.proxy_steps.proofs.BaseLaws.{answered}
+use Rattle.proxy_record.proofs.RulesLaws.{base-word}
+use Rattle.writer_proxy.specs.Calls.{irrelevantAt, irrelevant}
+use Rattle.writer_proxy.proofs.CallsLaws.{irrelevant-old, irrelevant-new}
+use Rattle.writer_proxy.proofs.CallsInPlace.{taken-below, taken-is, taken-not, irrelevant-keeps}
 use Rattle.writer_proxy.proofs.irrelevant.set_irrelevant_change.Statement.{statement}
 use Rattle.writer_proxy.proofs.irrelevant.set_irrelevant_change.Tie as tie
 
@@ -30,8 +33,8 @@ returns-2 c =
     let s = c .before .before .before .before .before in
     let a = s .args in
     let w = a .t .now in
-    let h : c .before .before .before .number-of .result < stateOf w .base = omega (arith, c .if2 .taken, base-word cap w (omega arith) (s .pre)) in
-    (taken-is (a .number) _ (s .fits .number) (c .before .before .before .number-of .ensures) (λ n. irrelevantAt n (stateOf w)) (refuses 4 (stateOf w)) Done _ (c .before .before .if1 .left) (rw (irrelevant-old _ (stateOf w) (s .pre .ok) h) (refl, s .pre .made)), s .pre)
+    let h : c .before .before .before .number-of .result < proxyOf w .base = omega (arith, c .if2 .taken, base-word cap w (omega arith) (s .pre)) in
+    (taken-is (a .number) _ (s .fits .number) (c .before .before .before .number-of .ensures) (λ n. irrelevantAt n (proxyOf w)) (refusedProxy 4 (proxyOf w)) Done _ (c .before .before .if1 .left) (rw (irrelevant-old _ (proxyOf w) (s .pre .ok) h) (refl, s .pre .made)), s .pre)
 
 track-requires : tie.Need-track-requires
 track-requires c κs =
@@ -47,8 +50,8 @@ returns-3 c =
     let s = c .before .before .before .before .before .before .before .before .before in
     let a = s .args in
     let w = a .t .now in
-    let h : stateOf w .base ≤ c .before .before .before .before .before .before .before .number-of .result = omega (arith, c .before .before .before .before .if2 .left, base-word cap w (omega arith) (s .pre)) in
-    let p = taken-is (a .number) _ (s .fits .number) (c .before .before .before .before .before .before .before .number-of .ensures) (λ n. irrelevantAt n (stateOf w)) (refuses 4 (stateOf w)) (c .before .before .track .result) _ (c .before .before .before .before .before .before .if1 .left) (answered (c .before .before .track .result) _ _ _ (sym (irrelevant-new _ (stateOf w) h)) (c .before .before .track .ensures)) in
+    let h : proxyOf w .base ≤ c .before .before .before .before .before .before .before .number-of .result = omega (arith, c .before .before .before .before .if2 .left, base-word cap w (omega arith) (s .pre)) in
+    let p = taken-is (a .number) _ (s .fits .number) (c .before .before .before .before .before .before .before .number-of .ensures) (λ n. irrelevantAt n (proxyOf w)) (refusedProxy 4 (proxyOf w)) (c .before .before .track .result) _ (c .before .before .before .before .before .before .if1 .left) (answered (c .before .before .track .result) _ _ _ (sym (irrelevant-new _ (proxyOf w) h)) (c .before .before .track .ensures)) in
     (p, irrelevant-keeps (a .number) w _ (s .pre) (p .1))
 
 pub set-irrelevant-change-spec : {M : Type 1} → statement M

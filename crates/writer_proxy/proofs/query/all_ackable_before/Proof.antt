@@ -2,7 +2,7 @@
 use native.Mathlib.Omega.{arith}
 use borrow.Author.Needs.{needs}
 use Rattle.proxy_record.specs.State.{cap}
-use Rattle.proxy_core.proofs.StepLaws.{base-word}
+use Rattle.proxy_record.proofs.RulesLaws.{base-word}
 use Rattle.writer_proxy.proofs.query.all_ackable_before.Statement.{statement}
 use Rattle.writer_proxy.proofs.query.all_ackable_before.Tie as tie
 

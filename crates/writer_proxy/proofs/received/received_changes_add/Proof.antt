@@ -1,8 +1,9 @@
 -- `writer_proxy::received::received_changes_add` meets its contract: refused or received, each a case of `received`. Assumes nothing.
 use borrow.Author.Needs.{needs}
-use Rattle.proxy_record.specs.Record.{stateOf}
-use Rattle.proxy_core.specs.Calls.{refuses, receivedAt, received}
-use Rattle.proxy_core.proofs.StepLaws.{received-keeps, taken-below, taken-is, taken-not}
+use Rattle.proxy_record.specs.Words.{proxyOf}
+use Rattle.proxy_steps.specs.Steps.{refusedProxy}
+use Rattle.writer_proxy.specs.Calls.{receivedAt, received}
+use Rattle.writer_proxy.proofs.CallsInPlace.{received-keeps, taken-below, taken-is, taken-not}
 use Rattle.writer_proxy.proofs.received.received_changes_add.Statement.{statement}
 use Rattle.writer_proxy.proofs.received.received_changes_add.Tie as tie
 
@@ -28,7 +29,7 @@ unfolding received
 returns-2 c =
     let s = c .before .before .before .before .before .before .before in
     let a = s .args in
-    let p = taken-is (a .number) _ (s .fits .number) (c .before .before .before .before .before .number-of .ensures) (λ n. receivedAt n (a .time) (stateOf (a .t .now))) (refuses 4 (stateOf (a .t .now))) (c .before .before .received-at .result) _ (c .before .before .before .before .if1 .left) (c .before .before .received-at .ensures) in
+    let p = taken-is (a .number) _ (s .fits .number) (c .before .before .before .before .before .number-of .ensures) (λ n. receivedAt n (a .time) (proxyOf (a .t .now))) (refusedProxy 4 (proxyOf (a .t .now))) (c .before .before .received-at .result) _ (c .before .before .before .before .if1 .left) (c .before .before .received-at .ensures) in
     (p, received-keeps (a .number) (a .time) (a .t .now) _ (s .pre) (p .1))
 
 pub received-changes-add-spec : {M : Type 1} → statement M

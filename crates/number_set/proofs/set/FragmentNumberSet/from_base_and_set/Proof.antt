@@ -2,8 +2,8 @@
 -- Assumes nothing.
 use Rattle.number_set.proofs.MakeLaws.{none-below, spanned-small, make-falls, make-empty, make-low, make-span}
 use Rattle.sequence_number.proofs.KindLaws.{fragment-lawful}
-use Rattle.number_set.specs.Make.{rising, fragmentSetMade}
-use Rattle.sequence_number.specs.Kind.{fragment}
+use Rattle.number_set.specs.Make.{isRising, fragmentSetMade}
+use Rattle.sequence_number.specs.Kind.{fragmentNumber}
 use borrow.Author.Tests.{not-true, not-false, lt-ltb, le-ltb}
 use lib.ListN.{length, getD}
 use native.Mathlib.Omega.{arith}
@@ -11,12 +11,10 @@ use mathlib.Core.Bool.{true}
 use mathlib.Core.Path.{_≡_, sym, _∙_}
 use Prim.Native.Nat.{ℕ, _-_, _<_, _≤_}
 use borrow.Author.Needs.{needs}
-use Rattle.number_set.proofs.set.FragmentNumberSet.from_base_and_set.Statement.{
-  statement,
-}
+use Rattle.number_set.proofs.set.FragmentNumberSet.from_base_and_set.Statement.{statement}
 use Rattle.number_set.proofs.set.FragmentNumberSet.from_base_and_set.Tie as tie
 
-rises : (c : tie.Else1) → rising fragment (c .before .before .before .args .list .now) ≡ true
+rises : (c : tie.Else1) → isRising fragmentNumber (c .before .before .before .args .list .now) ≡ true
 rises c = sym (c .before .rising-fragment .ensures) ∙ not-false _ (c .if1 .left)
 
 -- no element is below low
@@ -24,7 +22,7 @@ bounded : (c : tie.After-smaller-fragment) → (j : ℕ) → j < length (c .befo
     → c .smaller-fragment .result ≤ getD (c .before .before .before .before .before .before .args .list .now) j 0
 bounded c =
     let a = c .before .before .before .before .before .before .args in
-    none-below fragment fragment-lawful (a .base) (a .list .now) (rises (c .before .before .before)) (c .smaller-fragment .result) (c .smaller-fragment .ensures)
+    none-below fragmentNumber fragment-lawful (a .base) (a .list .now) (rises (c .before .before .before)) (c .smaller-fragment .result) (c .smaller-fragment .ensures)
 
 last-above : (c : tie.After-smaller-fragment) → c .smaller-fragment .result ≤ getD (c .before .before .before .before .before .before .args .list .now) (length (c .before .before .before .before .before .before .args .list .now) - 1) 0
 last-above c =
@@ -40,7 +38,7 @@ fragment-made-requires c κs = search needs
 returns : tie.Need-returns
 returns c =
     let a = c .before .before .before .before .args in
-    c .fragment-made .ensures ∙ make-falls fragment fragmentSetMade (a .base) (a .list .now) (sym (c .before .before .rising-fragment .ensures) ∙ not-true _ (c .before .if1 .taken))
+    c .fragment-made .ensures ∙ make-falls fragmentNumber fragmentSetMade (a .base) (a .list .now) (sym (c .before .before .rising-fragment .ensures) ∙ not-true _ (c .before .if1 .taken))
 
 fragment-made-requires-2 : tie.Need-fragment-made-requires-2
 fragment-made-requires-2 c κs = search needs
@@ -48,7 +46,7 @@ fragment-made-requires-2 c κs = search needs
 returns-2 : tie.Need-returns-2
 returns-2 c =
     let a = c .before .before .before .before .before .args in
-    c .fragment-made2 .ensures ∙ make-empty fragment fragmentSetMade (a .base) (a .list .now) (rises (c .before .before)) (c .before .if2 .taken)
+    c .fragment-made2 .ensures ∙ make-empty fragmentNumber fragmentSetMade (a .base) (a .list .now) (rises (c .before .before)) (c .before .if2 .taken)
 
 shared-slice-read-smaller-fragment : tie.Need-shared-slice-read-smaller-fragment
 shared-slice-read-smaller-fragment c = search needs
@@ -63,7 +61,7 @@ returns-3 : tie.Need-returns-3
 returns-3 c =
     let a = c .before .before .before .before .before .before .before .before .args in
     c .fragment-made3 .ensures
-    ∙ make-low fragment fragmentSetMade (a .base) (a .list .now) (rises (c .before .before .before .before .before)) (c .before .before .before .before .if2 .left) (c .before .before .smaller-fragment .result) (c .before .before .smaller-fragment .ensures)
+    ∙ make-low fragmentNumber fragmentSetMade (a .base) (a .list .now) (rises (c .before .before .before .before .before)) (c .before .before .before .before .if2 .left) (c .before .before .smaller-fragment .result) (c .before .before .smaller-fragment .ensures)
     (lt-ltb _ _ (c .before .if3 .taken))
 
 sub-spanned : tie.Need-sub-spanned
@@ -98,7 +96,7 @@ returns-4 : tie.Need-returns-4
 returns-4 c =
     let a = c .before .before .before .before .before .before .before .before .before .before .before .args in
     c .fragment-made4 .ensures
-    ∙ make-span fragment fragmentSetMade (a .base) (a .list .now) (rises (c .before .before .before .before .before .before .before .before)) (c .before .before .before .before .before .before .before .if2 .left) (c .before .before .before .before .before .smaller-fragment .result) (c .before .before .before .before .before .smaller-fragment .ensures)
+    ∙ make-span fragmentNumber fragmentSetMade (a .base) (a .list .now) (rises (c .before .before .before .before .before .before .before .before)) (c .before .before .before .before .before .before .before .if2 .left) (c .before .before .before .before .before .smaller-fragment .result) (c .before .before .before .before .before .smaller-fragment .ensures)
     (le-ltb _ _ (c .before .before .before .before .if3 .left)) (c .before .before .spanned .result) (c .before .mark-fragment .result) (c .before .before .spanned .ensures) (c .before .mark-fragment .ensures)
 
 pub from-base-and-set-spec : {M : Type 1} → statement M

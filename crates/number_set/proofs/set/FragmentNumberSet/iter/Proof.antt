@@ -4,7 +4,7 @@ use Prim.Native.Nat.{ℕ, _<_}
 use mathlib.Core.Path.{_≡_}
 use lib.Dec.{ltb}
 use borrow.Author.Needs.{needs}
-use Rattle.sequence_number.specs.Kind.{fragment}
+use Rattle.sequence_number.specs.Kind.{fragmentNumber}
 use Rattle.number_set.specs.NumberSet.{fragmentSet}
 use Rattle.sequence_number.proofs.FitLaws.{fragment-agree}
 use Rattle.number_set.proofs.WalkLaws.{walk-long, walk-refused, walk-room, walk-up, walk-down}
@@ -12,11 +12,11 @@ use Rattle.number_set.proofs.set.FragmentNumberSet.iter.Statement.{stat
 use Rattle.number_set.proofs.set.FragmentNumberSet.iter.Tie as tie
 
 -- the first position that does not fit
-agree : (h : tie.After-refused) → (i : ℕ) → i < 256 → ltb i (h .before .fragment-fit .result) ≡ fragment .fits (h .before .before .before .before .before .args .self .base) i
+agree : (h : tie.After-refused) → (i : ℕ) → i < 256 → ltb i (h .before .fragment-fit .result) ≡ fragmentNumber .fits (h .before .before .before .before .before .args .self .base) i
 agree h = fragment-agree _ _ (h .before .fragment-fit .ensures)
 
 returns : tie.Need-returns
-returns c = walk-long fragment (fragmentSet (c .before .before .before .args .self)) (c .before .before .before .args .up) (c .before .before .before .args .out .now) (c .if1 .taken)
+returns c = walk-long fragmentNumber (fragmentSet (c .before .before .before .args .self)) (c .before .before .before .args .up) (c .before .before .before .args .out .now) (c .if1 .taken)
 
 fragment-fit-requires : tie.Need-fragment-fit-requires
 fragment-fit-requires c κs = search needs
@@ -28,13 +28,13 @@ returns-2 : tie.Need-returns-2
 returns-2 c =
     let h = c .before in
     let a = h .before .before .before .before .before .args in
-    walk-refused fragment (fragmentSet (a .self)) (a .up) (a .out .now) (h .before .before .if1 .left) (h .before .fragment-fit .result) (agree h) (h .refused .result) (h .refused .ensures) (c .if2 .taken)
+    walk-refused fragmentNumber (fragmentSet (a .self)) (a .up) (a .out .now) (h .before .before .if1 .left) (h .before .fragment-fit .result) (agree h) (h .refused .result) (h .refused .ensures) (c .if2 .taken)
 
 rise-fragment-requires : tie.Need-rise-fragment-requires
 rise-fragment-requires c κs =
     let h = c .before .before .before in
     let a = h .before .before .before .before .before .args in
-    walk-room fragment (fragmentSet (a .self)) (a .up) (a .out .now) (h .before .before .if1 .left) (h .before .fragment-fit .result) (agree h) (h .refused .result) (h .refused .ensures) (c .before .before .if2 .left)
+    walk-room fragmentNumber (fragmentSet (a .self)) (a .up) (a .out .now) (h .before .before .if1 .left) (h .before .fragment-fit .result) (agree h) (h .refused .result) (h .refused .ensures) (c .before .before .if2 .left)
 
 same-length : tie.Need-same-length
 same-length c = search needs
@@ -44,13 +44,13 @@ returns-3 c =
     let h = c .before .before .before .before .before .before in
     let a = h .before .before .before .before .before .args in
     let r = c .before .before .rise-fragment in
-    walk-up fragment (fragmentSet (a .self)) (a .up) (a .out .now) (h .before .before .if1 .left) (h .before .fragment-fit .result) (agree h) (h .refused .result) (h .refused .ensures) (c .before .before .before .before .before .if2 .left) (c .before .before .before .before .if3 .taken) (r .result) (r .ensures .0) (r .last .1 .1 .1 .0) (r .ensures .1)
+    walk-up fragmentNumber (fragmentSet (a .self)) (a .up) (a .out .now) (h .before .before .if1 .left) (h .before .fragment-fit .result) (agree h) (h .refused .result) (h .refused .ensures) (c .before .before .before .before .before .if2 .left) (c .before .before .before .before .if3 .taken) (r .result) (r .ensures .0) (r .last .1 .1 .1 .0) (r .ensures .1)
 
 fall-fragment-requires : tie.Need-fall-fragment-requires
 fall-fragment-requires c κs =
     let h = c .before .before .before in
     let a = h .before .before .before .before .before .args in
-    walk-room fragment (fragmentSet (a .self)) (a .up) (a .out .now) (h .before .before .if1 .left) (h .before .fragment-fit .result) (agree h) (h .refused .result) (h .refused .ensures) (c .before .before .if2 .left)
+    walk-room fragmentNumber (fragmentSet (a .self)) (a .up) (a .out .now) (h .before .before .if1 .left) (h .before .fragment-fit .result) (agree h) (h .refused .result) (h .refused .ensures) (c .before .before .if2 .left)
 
 same-length-2 : tie.Need-same-length-2
 same-length-2 c = search needs
@@ -60,7 +60,7 @@ returns-4 c =
     let h = c .before .before .before .before .before .before in
     let a = h .before .before .before .before .before .args in
     let r = c .before .before .fall-fragment in
-    walk-down fragment (fragmentSet (a .self)) (a .up) (a .out .now) (h .before .before .if1 .left) (h .before .fragment-fit .result) (agree h) (h .refused .result) (h .refused .ensures) (c .before .before .before .before .before .if2 .left) (c .before .before .before .before .if3 .left) (r .result) (r .ensures .0) (r .last .1 .1 .1 .0) (r .ensures .1)
+    walk-down fragmentNumber (fragmentSet (a .self)) (a .up) (a .out .now) (h .before .before .if1 .left) (h .before .fragment-fit .result) (agree h) (h .refused .result) (h .refused .ensures) (c .before .before .before .before .before .if2 .left) (c .before .before .before .before .if3 .left) (r .result) (r .ensures .0) (r .last .1 .1 .1 .0) (r .ensures .1)
 
 pub iter-spec : {M : Type 1} → statement M
 iter-spec =

@@ -1,8 +1,9 @@
 -- `number_set::set::FragmentNumberSet::read_from` meets its contract: what the count said, with the base and the words, is a case of `readSet`.
 -- Assumes nothing.
 use Rattle.number_set.specs.SetWire.{fragmentSetRead}
-use Rattle.number_set.proofs.SetWireLaws.{bits-there, set-refused, set-read}
-use Rattle.sequence_number.specs.Kind.{fragment}
+use Rattle.set_words.proofs.SetWordsLaws.{bits-there}
+use Rattle.number_set.proofs.SetWireLaws.{set-refused, set-read}
+use Rattle.sequence_number.specs.Kind.{fragmentNumber}
 use native.Mathlib.Omega.{arith}
 use borrow.Author.Needs.{needs}
 use Rattle.number_set.proofs.set.FragmentNumberSet.read_from.Statement.{statement}
@@ -47,12 +48,12 @@ add-t16 c = search needs
 returns : tie.Need-returns
 returns c =
     let a = c .before .before .before .before .before .args in
-    set-refused fragment (a .o) (a .s .now) fragmentSetRead _ (c .before .refusal .given .1) (c .before .before .before .read-count .ensures)
+    set-refused fragmentNumber (a .o) (a .s .now) fragmentSetRead _ (c .before .refusal .given .1) (c .before .before .before .read-count .ensures)
 
 returns-2 : tie.Need-returns-2
 returns-2 c =
     let a = c .before .before .before .before .before .before .before .args in
-    set-read fragment (a .o) (a .s .now) fragmentSetRead _ (c .before .before .before .count .given .1) (c .before .before .before .before .before .read-count .ensures) _ _ (c .before .read-word .ensures) (c .read-words .ensures)
+    set-read fragmentNumber (a .o) (a .s .now) fragmentSetRead _ (c .before .before .before .count .given .1) (c .before .before .before .before .before .read-count .ensures) _ _ (c .before .read-word .ensures) (c .read-words .ensures)
 
 pub read-from-spec : {M : Type 1} → statement M
 read-from-spec =

@@ -1,9 +1,10 @@
 -- `number_set::set::FragmentNumberSet::write_to` meets its contract: the base, and then the count and its words, are one run.
 -- Assumes nothing.
-use Rattle.number_set.proofs.SetWireLaws.{wrote-means, set-not-written, set-written}
+use Rattle.set_words.proofs.SetWordsLaws.{wrote-means}
+use Rattle.number_set.proofs.SetWireLaws.{set-not-written, set-written}
 use Rattle.sequence_number.proofs.KindLaws.{fragment-lawful}
 use Rattle.number_set.specs.NumberSet.{fragmentSet}
-use Rattle.sequence_number.specs.Kind.{fragment}
+use Rattle.sequence_number.specs.Kind.{fragmentNumber}
 use lib.ListN.{length}
 use native.Mathlib.Omega.{arith}
 use borrow.Author.Needs.{needs}
@@ -34,7 +35,7 @@ write-bits-requires c κs =
 returns : tie.Need-returns
 returns c =
     let a = c .before .before .before .before .before .before .args in
-    set-not-written fragment fragment-lawful (a .o) (fragmentSet (a .self)) (a .out .now) _ (c .before .n .given .1) (c .before .before .before .write-room .ensures)
+    set-not-written fragmentNumber fragment-lawful (a .o) (fragmentSet (a .self)) (a .out .now) _ (c .before .n .given .1) (c .before .before .before .write-room .ensures)
 
 same-length : tie.Need-same-length
 same-length c = search needs
@@ -42,7 +43,7 @@ same-length c = search needs
 returns-2 : tie.Need-returns-2
 returns-2 c =
     let a = c .before .before .before .before .before .before .before .before .before .before .before .before .before .before .args in
-    set-written fragment fragment-lawful (a .o) (fragmentSet (a .self)) (a .out .now) _ (c .before .before .before .before .before .before .before .before .before .n2 .given .1) (c .before .before .before .before .before .before .before .before .before .before .before .write-room .ensures)
+    set-written fragmentNumber fragment-lawful (a .o) (fragmentSet (a .self)) (a .out .now) _ (c .before .before .before .before .before .before .before .before .before .n2 .given .1) (c .before .before .before .before .before .before .before .before .before .before .before .write-room .ensures)
     (c .before .before .before .before .before .before .write-word .last .1 .1 .0) (c .before .before .write-bits .last .1 .1 .1 .0) (c .before .before .before .before .before .before .write-word .ensures) (c .before .before .write-bits .ensures)
 
 pub write-to-spec : {M : Type 1} → statement M

@@ -2,10 +2,10 @@
 -- Assumes nothing.
 use Rattle.number_set.proofs.MakeLaws.{none-below, spanned-small, make-falls, make-empty, make-low, make-span}
 use Rattle.sequence_number.proofs.KindLaws.{sequence-lawful}
-use Rattle.number_set.specs.Inner.{markedTo}
-use Rattle.number_set.specs.Make.{rising, smaller, spanned, sequenceSetMade}
-use Rattle.sequence_number.specs.Kind.{sequence}
-use Rattle.sequence_number.specs.Outcome.{done}
+use Rattle.bitmap.specs.Marking.{markedTo}
+use Rattle.number_set.specs.Make.{isRising, smaller, spanned, sequenceSetMade}
+use Rattle.sequence_number.specs.Kind.{sequenceNumber}
+use Rattle.outcome.specs.Outcome.{done}
 use Rattle.number_set.specs.NumberSet.{emptyAt}
 use Rattle.sequence_number.specs.Number.{natOf}
 use borrow.Author.Tests.{not-true, not-false}
@@ -20,19 +20,17 @@ use mathlib.Core.Bool.{true}
 use mathlib.Core.Path.{_≡_, sym, ap, subst, _∙_}
 use Prim.Native.Nat.{ℕ, _-_, _<_, _≤_}
 use borrow.Author.Needs.{needs}
-use Rattle.number_set.proofs.set.SequenceNumberSet.from_base_and_set.Statement.{
-  statement,
-}
+use Rattle.number_set.proofs.set.SequenceNumberSet.from_base_and_set.Statement.{statement}
 use Rattle.number_set.proofs.set.SequenceNumberSet.from_base_and_set.Tie as tie
 
-rises : (c : tie.Else1) → rising sequence (c .before .before .args .list .now) ≡ true
+rises : (c : tie.Else1) → isRising sequenceNumber (c .before .before .args .list .now) ≡ true
 rises c = sym (c .before .rising-sequence .ensures) ∙ not-false _ (c .if1 .left)
 
 -- low as it comes back from `smaller_sequence`, and that it fits
-low-is : (c : tie.After-smaller-sequence) → c .smaller-sequence .result ≡ smaller sequence (c .before .before .before .before .before .args .base) (getD (c .before .before .before .before .before .args .list .now) 0 (pos 0))
+low-is : (c : tie.After-smaller-sequence) → c .smaller-sequence .result ≡ smaller sequenceNumber (c .before .before .before .before .before .args .base) (getD (c .before .before .before .before .before .args .list .now) 0 (pos 0))
 low-is c =
     c .smaller-sequence .ensures
-    ∙ (λ i. smaller sequence (toZ-ofZ (c .before .before .before .before .before .fits .base) i)
+    ∙ (λ i. smaller sequenceNumber (toZ-ofZ (c .before .before .before .before .before .fits .base) i)
     (toZ-ofZ {w = w64} {z = getD (c .before .before .before .before .before .args .list .now) 0 (pos 0)} (record { sfits = c .before .smaller-sequence-arg .given }) i))
 
 low-back : (c : tie.After-smaller-sequence) → toZ w64 (ofZ w64 (c .smaller-sequence .result)) ≡ c .smaller-sequence .result
@@ -43,7 +41,7 @@ bounded : (c : tie.After-smaller-sequence) → (j : ℕ) → j < length (c .befo
     → natOf (c .smaller-sequence .result) ≤ natOf (getD (c .before .before .before .before .before .args .list .now) j (pos 0))
 bounded c =
     let a = c .before .before .before .before .before .args in
-    none-below sequence sequence-lawful (a .base) (a .list .now) (rises (c .before .before .before)) (c .smaller-sequence .result) (low-is c)
+    none-below sequenceNumber sequence-lawful (a .base) (a .list .now) (rises (c .before .before .before)) (c .smaller-sequence .result) (low-is c)
 
 -- low and the last element as naturals
 from-is : (c : tie.After-natural) → c .natural .result ≡ natOf (c .before .before .smaller-sequence .result)
@@ -63,7 +61,7 @@ sequence-made-requires c κs = search needs
 returns : tie.Need-returns
 returns c =
     let a = c .before .before .before .args in
-    c .sequence-made .ensures ∙ make-falls sequence sequenceSetMade (a .base) (a .list .now) (sym (c .before .before .rising-sequence .ensures) ∙ not-true _ (c .before .if1 .taken))
+    c .sequence-made .ensures ∙ make-falls sequenceNumber sequenceSetMade (a .base) (a .list .now) (sym (c .before .before .rising-sequence .ensures) ∙ not-true _ (c .before .if1 .taken))
 
 sequence-made-requires-2 : tie.Need-sequence-made-requires-2
 sequence-made-requires-2 c κs = search needs
@@ -72,7 +70,7 @@ returns-2 : tie.Need-returns-2
 returns-2 c =
     let a = c .before .before .before .before .args in
     c .sequence-made2 .ensures ∙ ap (λ (b : ℤ). sequenceSetMade (done (emptyAt b))) (toZ-ofZ (c .before .before .before .before .fits .base))
-    ∙ make-empty sequence sequenceSetMade (a .base) (a .list .now) (rises (c .before .before)) (c .before .if2 .taken)
+    ∙ make-empty sequenceNumber sequenceSetMade (a .base) (a .list .now) (rises (c .before .before)) (c .before .if2 .taken)
 
 shared-slice-copy-out-smaller-sequence : tie.Need-shared-slice-copy-out-smaller-sequence
 shared-slice-copy-out-smaller-sequence c = search needs
@@ -87,7 +85,7 @@ returns-3 : tie.Need-returns-3
 returns-3 c =
     let a = c .before .before .before .before .before .before .before .args in
     c .sequence-made3 .ensures
-    ∙ make-low sequence sequenceSetMade (a .base) (a .list .now) (rises (c .before .before .before .before .before)) (c .before .before .before .before .if2 .left) (c .before .before .smaller-sequence .result) (low-is (c .before .before))
+    ∙ make-low sequenceNumber sequenceSetMade (a .base) (a .list .now) (rises (c .before .before .before .before .before)) (c .before .before .before .before .if2 .left) (c .before .before .smaller-sequence .result) (low-is (c .before .before))
     (ap (λ (z : ℤ). ltZ z (pos 1)) (sym (low-back (c .before .before))) ∙ c .before .if3 .taken)
 
 natural-requires : tie.Need-natural-requires
@@ -131,7 +129,7 @@ returns-4 c =
     let from = from-is (c .before .before .before .before .before) in
     c .sequence-made4 .ensures
     ∙ ap (λ (b : ℤ). sequenceSetMade (done (record { base = b; count = c .before .before .spanned .result; words = c .before .mark-sequence .result }))) (low-back (c .before .before .before .before .before .before .before))
-    ∙ make-span sequence sequenceSetMade (a .base) xs (rises (c .before .before .before .before .before .before .before .before .before .before)) (c .before .before .before .before .before .before .before .before .before .if2 .left) low (low-is (c .before .before .before .before .before .before .before))
+    ∙ make-span sequenceNumber sequenceSetMade (a .base) xs (rises (c .before .before .before .before .before .before .before .before .before .before)) (c .before .before .before .before .before .before .before .before .before .if2 .left) low (low-is (c .before .before .before .before .before .before .before))
     (ap (λ (z : ℤ). ltZ z (pos 1)) (sym (low-back (c .before .before .before .before .before .before .before))) ∙ c .before .before .before .before .before .before .if3 .left) (c .before .before .spanned .result) (c .before .mark-sequence .result)
     (c .before .before .spanned .ensures ∙ (λ i. spanned (last-is (c .before .before .before) i - from i)))
     (c .before .mark-sequence .ensures ∙ ap (λ (n : ℕ). markedTo (λ (x : ℤ). natOf x - n) (pos 0) xs (c .before .before .spanned .result) (length xs)) from)

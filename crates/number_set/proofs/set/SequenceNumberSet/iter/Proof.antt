@@ -10,8 +10,8 @@ use mir.Syntax.{w64}
 use mir.Val.{ofZ, toZ}
 use mir.Facts.{toZ-ofZ}
 use borrow.Author.Needs.{needs}
-use Rattle.sequence_number.specs.Kind.{sequence}
-use Rattle.number_set.specs.Bitmap.{positions}
+use Rattle.sequence_number.specs.Kind.{sequenceNumber}
+use Rattle.bitmap.specs.Bitmap.{positions}
 use Rattle.number_set.specs.NumberSet.{sequenceSet}
 use Rattle.number_set.proofs.WalkLaws.{walk-long, walk-refused, walk-room, walk-up, walk-down}
 use Rattle.number_set.proofs.set.SequenceNumberSet.iter.Statement.{statement}
@@ -22,11 +22,11 @@ back : (h : tie.After-refused) → toZ w64 (ofZ w64 (h .before .before .before .
 back h = toZ-ofZ {w = w64} {z = h .before .before .before .before .before .args .self .base} (record { sfits = h .before .before .before .before .struct-told .given .0 .1 })
 
 -- the first position that does not fit
-agree : (h : tie.After-refused) → (i : ℕ) → i < 256 → ltb i (h .before .sequence-fit .result) ≡ sequence .fits (h .before .before .before .before .before .args .self .base) i
-agree h i p = h .before .sequence-fit .ensures i p ∙ ap (λ (b : ℤ). sequence .fits b i) (back h)
+agree : (h : tie.After-refused) → (i : ℕ) → i < 256 → ltb i (h .before .sequence-fit .result) ≡ sequenceNumber .fits (h .before .before .before .before .before .args .self .base) i
+agree h i p = h .before .sequence-fit .ensures i p ∙ ap (λ (b : ℤ). sequenceNumber .fits b i) (back h)
 
 returns : tie.Need-returns
-returns c = walk-long sequence (sequenceSet (c .before .before .before .args .self)) (c .before .before .before .args .up) (c .before .before .before .args .out .now) (c .if1 .taken)
+returns c = walk-long sequenceNumber (sequenceSet (c .before .before .before .args .self)) (c .before .before .before .args .up) (c .before .before .before .args .out .now) (c .if1 .taken)
 
 sequence-fit-requires : tie.Need-sequence-fit-requires
 sequence-fit-requires c κs = search needs
@@ -38,13 +38,13 @@ returns-2 : tie.Need-returns-2
 returns-2 c =
     let h = c .before in
     let a = h .before .before .before .before .before .args in
-    walk-refused sequence (sequenceSet (a .self)) (a .up) (a .out .now) (h .before .before .if1 .left) (h .before .sequence-fit .result) (agree h) (h .refused .result) (h .refused .ensures) (c .if2 .taken)
+    walk-refused sequenceNumber (sequenceSet (a .self)) (a .up) (a .out .now) (h .before .before .if1 .left) (h .before .sequence-fit .result) (agree h) (h .refused .result) (h .refused .ensures) (c .if2 .taken)
 
 rise-sequence-requires : tie.Need-rise-sequence-requires
 rise-sequence-requires c κs =
     let h = c .before .before .before in
     let a = h .before .before .before .before .before .args in
-    rw (back h) (walk-room sequence (sequenceSet (a .self)) (a .up) (a .out .now) (h .before .before .if1 .left) (h .before .sequence-fit .result) (agree h) (h .refused .result) (h .refused .ensures) (c .before .before .if2 .left))
+    rw (back h) (walk-room sequenceNumber (sequenceSet (a .self)) (a .up) (a .out .now) (h .before .before .if1 .left) (h .before .sequence-fit .result) (agree h) (h .refused .result) (h .refused .ensures) (c .before .before .if2 .left))
 
 same-length : tie.Need-same-length
 same-length c = search needs
@@ -54,13 +54,13 @@ returns-3 c =
     let h = c .before .before .before .before .before in
     let a = h .before .before .before .before .before .args in
     let r = c .before .rise-sequence in
-    walk-up sequence (sequenceSet (a .self)) (a .up) (a .out .now) (h .before .before .if1 .left) (h .before .sequence-fit .result) (agree h) (h .refused .result) (h .refused .ensures) (c .before .before .before .before .if2 .left) (c .before .before .before .if3 .taken) (r .result) (r .ensures .0) (r .last .1 .1 .1 .0) (r .ensures .1 ∙ ap (λ (b : ℤ). sets (a .out .now) 0 (map (sequence .plus b) (positions (a .self .words) (a .self .count)))) (back h))
+    walk-up sequenceNumber (sequenceSet (a .self)) (a .up) (a .out .now) (h .before .before .if1 .left) (h .before .sequence-fit .result) (agree h) (h .refused .result) (h .refused .ensures) (c .before .before .before .before .if2 .left) (c .before .before .before .if3 .taken) (r .result) (r .ensures .0) (r .last .1 .1 .1 .0) (r .ensures .1 ∙ ap (λ (b : ℤ). sets (a .out .now) 0 (map (sequenceNumber .plus b) (positions (a .self .words) (a .self .count)))) (back h))
 
 fall-sequence-requires : tie.Need-fall-sequence-requires
 fall-sequence-requires c κs =
     let h = c .before .before .before in
     let a = h .before .before .before .before .before .args in
-    rw (back h) (walk-room sequence (sequenceSet (a .self)) (a .up) (a .out .now) (h .before .before .if1 .left) (h .before .sequence-fit .result) (agree h) (h .refused .result) (h .refused .ensures) (c .before .before .if2 .left))
+    rw (back h) (walk-room sequenceNumber (sequenceSet (a .self)) (a .up) (a .out .now) (h .before .before .if1 .left) (h .before .sequence-fit .result) (agree h) (h .refused .result) (h .refused .ensures) (c .before .before .if2 .left))
 
 same-length-2 : tie.Need-same-length-2
 same-length-2 c = search needs
@@ -70,7 +70,7 @@ returns-4 c =
     let h = c .before .before .before .before .before in
     let a = h .before .before .before .before .before .args in
     let r = c .before .fall-sequence in
-    walk-down sequence (sequenceSet (a .self)) (a .up) (a .out .now) (h .before .before .if1 .left) (h .before .sequence-fit .result) (agree h) (h .refused .result) (h .refused .ensures) (c .before .before .before .before .if2 .left) (c .before .before .before .if3 .left) (r .result) (r .ensures .0) (r .last .1 .1 .1 .0) (r .ensures .1 ∙ ap (λ (b : ℤ). sets (a .out .now) 0 (map (sequence .plus b) (reverse (positions (a .self .words) (a .self .count))))) (back h))
+    walk-down sequenceNumber (sequenceSet (a .self)) (a .up) (a .out .now) (h .before .before .if1 .left) (h .before .sequence-fit .result) (agree h) (h .refused .result) (h .refused .ensures) (c .before .before .before .before .if2 .left) (c .before .before .before .if3 .left) (r .result) (r .ensures .0) (r .last .1 .1 .1 .0) (r .ensures .1 ∙ ap (λ (b : ℤ). sets (a .out .now) 0 (map (sequenceNumber .plus b) (reverse (positions (a .self .words) (a .self .count))))) (back h))
 
 pub iter-spec : {M : Type 1} → statement M
 iter-spec =

@@ -5,8 +5,9 @@ use mir.Val.{ofZ, toZ}
 use mir.Syntax.{w64}
 use mathlib.Core.Path.{_∙_}
 use Rattle.number_set.specs.SetWire.{sequenceSetRead}
-use Rattle.number_set.proofs.SetWireLaws.{bits-there, set-refused, set-read}
-use Rattle.sequence_number.specs.Kind.{sequence}
+use Rattle.set_words.proofs.SetWordsLaws.{bits-there}
+use Rattle.number_set.proofs.SetWireLaws.{set-refused, set-read}
+use Rattle.sequence_number.specs.Kind.{sequenceNumber}
 use native.Mathlib.Omega.{arith}
 use borrow.Author.Needs.{needs}
 use Rattle.number_set.proofs.set.SequenceNumberSet.read_from.Statement.{statement}
@@ -51,12 +52,12 @@ add-t16 c = search needs
 returns : tie.Need-returns
 returns c =
     let a = c .before .before .before .before .before .args in
-    set-refused sequence (a .o) (a .s .now) sequenceSetRead _ (c .before .refusal .given .1) (c .before .before .before .read-count .ensures)
+    set-refused sequenceNumber (a .o) (a .s .now) sequenceSetRead _ (c .before .refusal .given .1) (c .before .before .before .read-count .ensures)
 
 returns-2 : tie.Need-returns-2
 returns-2 c =
     let a = c .before .before .before .before .before .before .before .args in
-    set-read sequence (a .o) (a .s .now) sequenceSetRead _ (c .before .before .before .count .given .1) (c .before .before .before .before .before .read-count .ensures) (toZ w64 (ofZ w64 (c .before .sequence-at .result))) _
+    set-read sequenceNumber (a .o) (a .s .now) sequenceSetRead _ (c .before .before .before .count .given .1) (c .before .before .before .before .before .read-count .ensures) (toZ w64 (ofZ w64 (c .before .sequence-at .result))) _
     (toZ-ofZ (record { sfits = c .before .sequence-at .ok }) ∙ c .before .sequence-at .ensures) (c .read-words .ensures)
 
 pub read-from-spec : {M : Type 1} → statement M

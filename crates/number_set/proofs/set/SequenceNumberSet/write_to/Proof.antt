@@ -1,15 +1,15 @@
 -- `number_set::set::SequenceNumberSet::write_to` meets its contract: the base, and then the count and its words, are one run.
 -- Assumes nothing.
-use Rattle.sequence_number.specs.Kind.{sequenceBytes}
+use Rattle.sequence_number.specs.Kind.{sequenceBytes, sequenceNumber}
 use mir.Syntax.{w64}
 use mir.Facts.{toZ-ofZ}
 use mathlib.Core.Path.{ap, _∙_}
 use lib.Seq.{sets}
 use lib.IntN.{ℤ}
-use Rattle.number_set.proofs.SetWireLaws.{wrote-means, set-not-written, set-written}
+use Rattle.set_words.proofs.SetWordsLaws.{wrote-means}
+use Rattle.number_set.proofs.SetWireLaws.{set-not-written, set-written}
 use Rattle.sequence_number.proofs.KindLaws.{sequence-lawful}
 use Rattle.number_set.specs.NumberSet.{sequenceSet}
-use Rattle.sequence_number.specs.Kind.{sequence}
 use lib.ListN.{length}
 use native.Mathlib.Omega.{arith}
 use borrow.Author.Needs.{needs}
@@ -40,7 +40,7 @@ write-bits-requires c κs =
 returns : tie.Need-returns
 returns c =
     let a = c .before .before .before .before .before .before .before .args in
-    set-not-written sequence sequence-lawful (a .o) (sequenceSet (a .self)) (a .out .now) _ (c .before .n .given .1) (c .before .before .before .write-room .ensures)
+    set-not-written sequenceNumber sequence-lawful (a .o) (sequenceSet (a .self)) (a .out .now) _ (c .before .n .given .1) (c .before .before .before .write-room .ensures)
 
 same-length : tie.Need-same-length
 same-length c = search needs
@@ -48,7 +48,7 @@ same-length c = search needs
 returns-2 : tie.Need-returns-2
 returns-2 c =
     let a = c .before .before .before .before .before .before .before .before .before .before .before .before .before .before .before .args in
-    set-written sequence sequence-lawful (a .o) (sequenceSet (a .self)) (a .out .now) _ (c .before .before .before .before .before .before .before .before .before .n2 .given .1) (c .before .before .before .before .before .before .before .before .before .before .before .write-room .ensures)
+    set-written sequenceNumber sequence-lawful (a .o) (sequenceSet (a .self)) (a .out .now) _ (c .before .before .before .before .before .before .before .before .before .n2 .given .1) (c .before .before .before .before .before .before .before .before .before .before .before .write-room .ensures)
     (c .before .before .before .before .before .before .sequence-to .last .1 .1 .0) (c .before .before .write-bits .last .1 .1 .1 .0)
     (c .before .before .before .before .before .before .sequence-to .ensures ∙ ap (λ (z : ℤ). sets (a .out .now) 0 (sequenceBytes (a .o) z)) (toZ-ofZ {w = w64} {z = a .self .base} (record { sfits = c .before .before .before .before .before .before .before .before .before .before .before .before .before .struct-told .given .0 .1 }))) (c .before .before .write-bits .ensures)
 

@@ -1,0 +1,3 @@
+pub mod CounterLaws
+pub mod Promises
+pub mod Determined

@@ -1,0 +1,4 @@
+pub mod Split
+pub mod LentLaws
+pub mod RowLaws
+pub mod Determined

@@ -1,0 +1,4 @@
+pub mod Outcome
+pub mod Lent
+pub mod Row
+pub mod Answers

@@ -1,4 +1,0 @@
-pub mod CallsLaws
-pub mod RangeLaws
-pub mod StepLaws
-pub mod RangeStepLaws

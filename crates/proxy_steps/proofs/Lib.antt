@@ -1,0 +1,5 @@
+pub mod StepsLaws
+pub mod CapLaws
+pub mod EachLaws
+pub mod BaseLaws
+pub mod RangeLaws
