@@ -95,9 +95,12 @@ def report():
     for crate, r, w in accepted:
         equal.append("| `%s::%s` | %s | `%s` to `%s` | %s |" % (crate, r["function"], r["place"], r["old"].replace("|", "\\|"), r["new"].replace("|", "\\|"), w or "**not explained**"))
     rows = read_ports()
-    refused = sum(1 for r in rows.values() if r[2].startswith("refused"))
-    facts = sum(1 for r in rows.values() if r[2] == "refused: a fact fails")
-    ports = ["%d wrong ports tried, %d refused, %d of them because a fact fails." % (len(rows), refused, facts)]
+    top = os.path.join(HERE, "ports")
+    there = [(c, e[:-5]) for c in os.listdir(top) for e in os.listdir(os.path.join(top, c)) if e.endswith(".edit")]
+    judged = [rows[k][2] for k in there if k in rows]
+    refused = sum(1 for v in judged if v.startswith("refused"))
+    facts = sum(1 for v in judged if v == "refused: a fact fails")
+    ports = ["%d wrong ports; %d have a verdict: %d refused, %d of them because a fact fails. %d have none yet." % (len(there), len(judged), refused, facts, len(there) - len(judged))]
     tables = {"left": left_over(), "crates": count_table(by_crate), "kinds": count_table({k: by_kind[k] for k in KINDS if k in by_kind}), "accepted": equal, "ports": ports}
     path = os.path.join(ROOT, "docs", "SWEEP.md")
     with open(path, encoding="utf-8") as h:
