@@ -1,4 +1,6 @@
 // The acknack count: handed out, and moved on where the caller keeps it.
+#![tactic(auto)]
+
 ghost use Rattle.std.specs.Prelude.{◌≡◌};
 ghost use Rattle.ack_nack_counter.specs.Counter.{next_count, fresh_counter, handed_out};
 

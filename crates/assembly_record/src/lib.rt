@@ -1,6 +1,8 @@
 // The record that a caller keeps for one writer's fragments, as lent words, and the bytes of the lent area: where their parts lie, and the changes of
 // one place. What changes a record, `open_at`, `run_at`, `wipe_at` and `sweep_all`, leaves a whole record. The public calls are in
 // crate `fragment_assembler`.
+#![tactic(auto)]
+
 pub mod area;
 pub mod clean;
 pub mod layout;

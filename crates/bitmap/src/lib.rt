@@ -1,4 +1,6 @@
 // The bits of a set's words: asked, and set from a list of members.
+#![tactic(auto)]
+
 ghost use Rattle.std.specs.Prelude.{◌≡◌, ℕ, ◌-◌, ◌%◌, ◌≤◌, ◌<◌, length, get_or, pos};
 ghost use Rattle.sequence_number.specs.Number.{nat_of};
 ghost use Rattle.bitmap.specs.Bitmap.{has_bit, with_bit};

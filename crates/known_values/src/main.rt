@@ -1,4 +1,6 @@
 // Document 01's "Known values at the edges" that are not in the table, and those of its "Easy errors" that the table does not show, run and written out.
+#![tactic(auto)]
+
 ghost use Rattle.std.specs.Prelude.{◌≡◌, length};
 ghost use Rattle.assembly_record.specs.Sizes.{assembler_size};
 ghost use Rattle.assembly_record.specs.Rules.{GoodAssembler};

@@ -2,6 +2,8 @@
 // the answers that both records share are here.
 
 // What a set-up says.
+#![tactic(auto)]
+
 #[derive(Drop)]
 pub enum SetUp {
     Refused(u8),

@@ -1,5 +1,7 @@
 // The steps of the calls on a proxy, over numbers that a call takes: a number noted or tracked, the base moved on, the cap, a range.
 // The calls, which take any i64, are in crate `writer_proxy`.
+#![tactic(auto)]
+
 pub mod base;
 pub mod range;
 

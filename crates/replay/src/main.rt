@@ -1,5 +1,7 @@
 // Reads document 01's replay lines from standard input and writes the answer to each to standard output, as it goes.
 // Input and lines may have any length. The work is that of crate `replay_lines`; here it is fed and what it says is written.
+#![tactic(auto)]
+
 ghost use Rattle.std.specs.Prelude.{◌≡◌, ◌≤◌, length};
 ghost use Rattle.outcome.specs.Lent.{over};
 ghost use Rattle.proxy_record.specs.State.{fresh_proxy};

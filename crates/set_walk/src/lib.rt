@@ -1,4 +1,6 @@
 // The members of a set of at most 256 bits to a lent list, all of which fit their type and the list.
+#![tactic(auto)]
+
 pub mod fall;
 pub mod rise;
 

@@ -1,4 +1,6 @@
 // A set's count and words on the wire, and its length: of either width, whose base takes so many bytes.
+#![tactic(auto)]
+
 ghost use Rattle.std.specs.Prelude.{◌≡◌, ◌+◌, ◌*◌, ◌≤◌, length};
 ghost use Rattle.std.proofs.lemmas.List.Edits.{sets};
 ghost use Rattle.sequence_number.specs.NumberWire.{written_said};

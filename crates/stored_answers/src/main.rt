@@ -7,6 +7,8 @@
 // area are lent; a set is its base, its count and eight words; `..` is a list, to the end of the line.
 // An answer begins with the refusal number, or 0, and ends with what was lent, as the call left it; a record or an area is shown by its
 // digest (digest.rt). A line that is no call is answered by `?`. The table of all calls and their answers is in docs/.
+#![tactic(auto)]
+
 mod args;
 mod assembler;
 mod codes;

@@ -1,5 +1,7 @@
 // What came from one writer, what is missing, and what may be acknowledged: rustdds 0.15.1, src/rtps/rtps_writer_proxy.rs.
 // The record lies in 775 words that the caller lends; crate `proxy_record` has its layout.
+#![tactic(auto)]
+
 pub mod irrelevant;
 pub mod missing;
 pub mod query;
