@@ -100,7 +100,7 @@ def functions_of(crate, file, text):
                 elif c in ")]":
                     depth -= 1
                 elif depth == 0:
-                    w = re.compile(r"(requires|ensures)\s*\{").match(text, i)
+                    w = re.compile(r"(requires|ensures)(?:\s+\w+)?\s*\{").match(text, i)
                     if w:
                         i = closing(text, w.end() - 1)
                     elif c == "{":
