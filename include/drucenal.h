@@ -1,6 +1,6 @@
 /*
  * A receiver core for RTPS: what came, what is missing, what may be acknowledged. The calls of the static library that
- * `rt staticlib drucenal` leaves in target/staticlib/libdrucenal.a, for x86-64.
+ * `rust/library` leaves in target/staticlib/libdrucenal.a, for x86-64.
  *
  *     cc program.c -Iinclude -Ltarget/staticlib -ldrucenal
  *

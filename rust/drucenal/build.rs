@@ -1,4 +1,4 @@
-//! Links the static library, which `rt staticlib drucenal` leaves in the repository's target folder;
+//! Links the static library, which `rust/library` leaves in the repository's target folder;
 //! DRUCENAL_LIB names another folder.
 
 use std::path::PathBuf;
@@ -13,7 +13,7 @@ fn main() {
     let archive = folder.join("libdrucenal.a");
     println!("cargo:rerun-if-changed={}", archive.display());
     if !archive.is_file() {
-        eprintln!("the static library was not found: run `rt staticlib drucenal` at the repository's root");
+        eprintln!("the static library was not found: run `rust/library` at the repository's root");
         std::process::exit(1);
     }
     println!("cargo:rustc-env=DRUCENAL_FOUND={}", folder.display());

@@ -11,7 +11,6 @@ use fragment_assembler::clean::Cleaned;
 use fragment_assembler::fragment::Answer;
 use outcome::{Listing, SetUp};
 
-#[unsafe(no_mangle)]
 pub extern "C" fn drucenal_assembler_set_up(
     words: &mut [u64],
     fragment_size: u16,
@@ -26,7 +25,6 @@ pub extern "C" fn drucenal_assembler_set_up(
     }
 }
 
-#[unsafe(no_mangle)]
 pub extern "C" fn drucenal_assembler_new_datafrag(
     words: &mut [u64],
     area: &mut [u8],
@@ -85,7 +83,6 @@ pub extern "C" fn drucenal_assembler_new_datafrag(
 }
 
 // The length of the part of the area that is shown; start: where it begins, 0 where it would pass the area's end.
-#[unsafe(no_mangle)]
 pub extern "C" fn drucenal_assembler_view(
     words: &[u64],
     area: &[u8],
@@ -100,7 +97,6 @@ pub extern "C" fn drucenal_assembler_view(
     fragment_assembler::view::view(words, area, place, length).len()
 }
 
-#[unsafe(no_mangle)]
 pub extern "C" fn drucenal_assembler_garbage_collect_before(
     words: &mut [u64],
     expire_before: u64,
@@ -119,7 +115,6 @@ pub extern "C" fn drucenal_assembler_garbage_collect_before(
     }
 }
 
-#[unsafe(no_mangle)]
 pub extern "C" fn drucenal_assembler_missing_frags_for(
     words: &[u64],
     number: i64,
@@ -138,7 +133,6 @@ pub extern "C" fn drucenal_assembler_missing_frags_for(
     }
 }
 
-#[unsafe(no_mangle)]
 pub extern "C" fn drucenal_assembler_is_partially_received(words: &[u64], number: i64) -> bool
     requires { GoodAssembler words.now }
     ensures { result ≡ is_partially_received (assembler_of words.now).places (number_of number) }
@@ -146,7 +140,6 @@ pub extern "C" fn drucenal_assembler_is_partially_received(words: &[u64], number
     fragment_assembler::query::is_partially_received(words, number)
 }
 
-#[unsafe(no_mangle)]
 pub extern "C" fn drucenal_assembler_in_assembly(words: &[u64]) -> usize
     requires { GoodAssembler words.now }
     ensures { result ≡ in_assembly (assembler_of words.now).places }

@@ -17,7 +17,6 @@ pub(crate) fn order_of(big: bool) -> ByteOrder
     ByteOrder::Little
 }
 
-#[unsafe(no_mangle)]
 pub extern "C" fn drucenal_read_sequence_number(big: bool, bytes: &[u8], number: &mut i64) -> u32
     ensures { Gives (read_number sequence_number (order_of big) bytes.now) number.old result number.new }
 {
@@ -30,7 +29,6 @@ pub extern "C" fn drucenal_read_sequence_number(big: bool, bytes: &[u8], number:
     }
 }
 
-#[unsafe(no_mangle)]
 pub extern "C" fn drucenal_write_sequence_number(big: bool, number: i64, out: &mut [u8]) -> u32
     ensures { Lends (write_number sequence_number (length out.old)) (sequence_number.number_bytes (order_of big) number) out.old result out.new }
 {
@@ -40,7 +38,6 @@ pub extern "C" fn drucenal_write_sequence_number(big: bool, number: i64, out: &m
     }
 }
 
-#[unsafe(no_mangle)]
 pub extern "C" fn drucenal_read_fragment_number(big: bool, bytes: &[u8], number: &mut u32) -> u32
     ensures { Gives (read_number fragment_number (order_of big) bytes.now) number.old result number.new }
 {
@@ -53,7 +50,6 @@ pub extern "C" fn drucenal_read_fragment_number(big: bool, bytes: &[u8], number:
     }
 }
 
-#[unsafe(no_mangle)]
 pub extern "C" fn drucenal_write_fragment_number(big: bool, number: u32, out: &mut [u8]) -> u32
     ensures { Lends (write_number fragment_number (length out.old)) (fragment_number.number_bytes (order_of big) number) out.old result out.new }
 {

@@ -16,7 +16,6 @@ use outcome::{Listing, SetUp};
 use proxy_steps::Report;
 use writer_proxy::query::{LastReceived, Status};
 
-#[unsafe(no_mangle)]
 pub extern "C" fn drucenal_proxy_set_up(words: &mut [u64]) -> u32
     ensures value { (result ≡ refusal (set_up_proxy words.old).answer) × (words.new ≡ (set_up_proxy words.old).words) }
     ensures good_proxy { proxy_size ≤ length words.old → GoodProxy (take proxy_size words.new) }
@@ -46,7 +45,6 @@ fn tell(report: Report, old: &mut u64, new: &mut u64) -> u32
     }
 }
 
-#[unsafe(no_mangle)]
 pub extern "C" fn drucenal_proxy_received_changes_add(
     words: &mut [u64],
     number: i64,
@@ -61,7 +59,6 @@ pub extern "C" fn drucenal_proxy_received_changes_add(
     tell(r, old, new)
 }
 
-#[unsafe(no_mangle)]
 pub extern "C" fn drucenal_proxy_set_irrelevant_change(
     words: &mut [u64],
     number: i64,
@@ -75,7 +72,6 @@ pub extern "C" fn drucenal_proxy_set_irrelevant_change(
     tell(r, old, new)
 }
 
-#[unsafe(no_mangle)]
 pub extern "C" fn drucenal_proxy_irrelevant_changes_range(
     words: &mut [u64],
     from: i64,
@@ -90,7 +86,6 @@ pub extern "C" fn drucenal_proxy_irrelevant_changes_range(
     tell(r, old, new)
 }
 
-#[unsafe(no_mangle)]
 pub extern "C" fn drucenal_proxy_irrelevant_changes_up_to(
     words: &mut [u64],
     smallest: i64,
@@ -104,7 +99,6 @@ pub extern "C" fn drucenal_proxy_irrelevant_changes_up_to(
     tell(r, old, new)
 }
 
-#[unsafe(no_mangle)]
 pub extern "C" fn drucenal_proxy_all_ackable_before(words: &[u64]) -> u64
     requires { GoodProxy words.now }
     ensures { result ≡ (proxy_of words.now).base }
@@ -112,7 +106,6 @@ pub extern "C" fn drucenal_proxy_all_ackable_before(words: &[u64]) -> u64
     writer_proxy::query::all_ackable_before(words)
 }
 
-#[unsafe(no_mangle)]
 pub extern "C" fn drucenal_proxy_should_ignore_change(words: &[u64], number: i64) -> bool
     requires { GoodProxy words.now }
     ensures { result ≡ ignored number (proxy_of words.now) }
@@ -121,7 +114,6 @@ pub extern "C" fn drucenal_proxy_should_ignore_change(words: &[u64], number: i64
 }
 
 // 0 untracked, 1 not available, 2 received; the time is written for 2 alone.
-#[unsafe(no_mangle)]
 pub extern "C" fn drucenal_proxy_change_status(words: &[u64], number: i64, time: &mut u64) -> u32
     requires { GoodProxy words.now }
     ensures { (result ≡ status_number (status_of number (proxy_of words.now))) × (time.new ≡ status_time (status_of number (proxy_of words.now)) time.old) }
@@ -137,7 +129,6 @@ pub extern "C" fn drucenal_proxy_change_status(words: &[u64], number: i64, time:
 }
 
 // The number, 0 for none; the time is written where there is one.
-#[unsafe(no_mangle)]
 pub extern "C" fn drucenal_proxy_last_received(words: &[u64], time: &mut u64) -> u64
     requires { GoodProxy words.now }
     ensures { (result ≡ last_number (last_received (proxy_of words.now))) × (time.new ≡ last_time (last_received (proxy_of words.now)) time.old) }
@@ -151,7 +142,6 @@ pub extern "C" fn drucenal_proxy_last_received(words: &[u64], time: &mut u64) ->
     }
 }
 
-#[unsafe(no_mangle)]
 pub extern "C" fn drucenal_proxy_missing_seqnums(
     words: &[u64],
     start: i64,
@@ -172,7 +162,6 @@ pub extern "C" fn drucenal_proxy_missing_seqnums(
 }
 
 // The count that is handed out; the caller's own is moved on where it lies.
-#[unsafe(no_mangle)]
 pub extern "C" fn drucenal_next_ack_nack_sequence_number(count: &mut i32) -> i32
     ensures { (result ≡ count.old) × (count.new ≡ next_count count.old) }
 {

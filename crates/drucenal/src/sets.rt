@@ -11,7 +11,6 @@ use crate::numbers::order_of;
 use number_set::set::{FragmentNumberSet, Measured, SequenceNumberSet, Walked};
 use sequence_number::wire::Written;
 
-#[unsafe(no_mangle)]
 pub extern "C" fn drucenal_read_sequence_number_set(
     big: bool,
     bytes: &[u8],
@@ -37,7 +36,6 @@ pub extern "C" fn drucenal_read_sequence_number_set(
     0
 }
 
-#[unsafe(no_mangle)]
 pub extern "C" fn drucenal_write_sequence_number_set(
     big: bool,
     base: i64,
@@ -63,7 +61,6 @@ pub extern "C" fn drucenal_write_sequence_number_set(
     }
 }
 
-#[unsafe(no_mangle)]
 pub extern "C" fn drucenal_make_sequence_number_set(
     base: i64,
     list: &[i64],
@@ -87,7 +84,6 @@ pub extern "C" fn drucenal_make_sequence_number_set(
     0
 }
 
-#[unsafe(no_mangle)]
 pub extern "C" fn drucenal_walk_sequence_number_set(
     rising: bool,
     base: i64,
@@ -113,7 +109,6 @@ pub extern "C" fn drucenal_walk_sequence_number_set(
     }
 }
 
-#[unsafe(no_mangle)]
 pub extern "C" fn drucenal_measure_sequence_number_set(count: u32, length: &mut usize) -> u32
     ensures { Gives (measure_set 8 count) length.old result length.new }
 {
@@ -131,7 +126,6 @@ pub extern "C" fn drucenal_measure_sequence_number_set(count: u32, length: &mut 
     }
 }
 
-#[unsafe(no_mangle)]
 pub extern "C" fn drucenal_read_fragment_number_set(
     big: bool,
     bytes: &[u8],
@@ -157,7 +151,6 @@ pub extern "C" fn drucenal_read_fragment_number_set(
     0
 }
 
-#[unsafe(no_mangle)]
 pub extern "C" fn drucenal_write_fragment_number_set(
     big: bool,
     base: u32,
@@ -183,7 +176,6 @@ pub extern "C" fn drucenal_write_fragment_number_set(
     }
 }
 
-#[unsafe(no_mangle)]
 pub extern "C" fn drucenal_make_fragment_number_set(
     base: u32,
     list: &[u32],
@@ -207,7 +199,6 @@ pub extern "C" fn drucenal_make_fragment_number_set(
     0
 }
 
-#[unsafe(no_mangle)]
 pub extern "C" fn drucenal_walk_fragment_number_set(
     rising: bool,
     base: u32,
@@ -233,7 +224,6 @@ pub extern "C" fn drucenal_walk_fragment_number_set(
     }
 }
 
-#[unsafe(no_mangle)]
 pub extern "C" fn drucenal_measure_fragment_number_set(count: u32, length: &mut usize) -> u32
     ensures { Gives (measure_set 4 count) length.old result length.new }
 {

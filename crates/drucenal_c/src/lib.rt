@@ -1,0 +1,8 @@
+// The static library for Rust and C: each export calls the call of that name in crate `drucenal` and has its promise. A crate is a
+// library or a static library, not both, and the theorems above `drucenal` want a library.
+#![tactic(auto)]
+
+pub mod assembler;
+pub mod numbers;
+pub mod proxy;
+pub mod sets;
