@@ -23,10 +23,6 @@ class Copy:
             if os.path.isdir(there):
                 shutil.rmtree(there)
             shutil.copytree(here, there) if os.path.isdir(here) else shutil.copy2(here, there)
-        for part in ("rlib", "stamp", "log"):
-            here, there = os.path.join(ROOT, "target", part), os.path.join(self.at, "target", part)
-            if os.path.isdir(here) and not os.path.isdir(there):
-                shutil.copytree(here, there, symlinks=True)
 
     def remove(self):
         if self.temporary:
@@ -41,11 +37,10 @@ class Copy:
             with open(path, "w", encoding="utf-8") as h:
                 h.write(text)
 
-    def run(self, *words):
-        """What `rt` says, or None where it takes too long; nothing of it is left running."""
-        env = dict(os.environ, RT_JOBS=os.environ.get("RT_JOBS", "1"), RT_CUT="0")
-        words = ["nice", "-n", "19", "rt", *words]
-        with subprocess.Popen(words, cwd=self.at, env=env, stdout=subprocess.PIPE, stderr=subprocess.STDOUT, process_group=0) as p:
+    def check(self, crate):
+        """What `rt check` says of a crate, or None where it takes too long; nothing of it is left running."""
+        words = ["nice", "-n", "19", "rt", "check", "--jobs", os.environ.get("RT_JOBS", "1")]
+        with subprocess.Popen(words, cwd=os.path.join(self.at, "crates", crate), stdout=subprocess.PIPE, stderr=subprocess.STDOUT, process_group=0) as p:
             try:
                 return p.communicate(timeout=LIMIT)[0].decode("utf-8", "replace")
             except subprocess.TimeoutExpired:
@@ -90,7 +85,7 @@ class Copy:
 
     def forget(self, crate):
         """Removes what earlier checks of a crate left, so that the next one starts from nothing."""
-        shutil.rmtree(os.path.join(self.at, "target", "inc", crate), ignore_errors=True)
+        shutil.rmtree(os.path.join(self.at, "crates", crate, "out"), ignore_errors=True)
 
 
 VERDICT = re.compile(r"^fn (\S+): (.*)$", re.M)
@@ -106,7 +101,7 @@ class Said:
         self.ended = bool(re.search(r"^logic=", log or "", re.M))
         self.front = []
         if not self.ended:
-            for m in re.finditer(r"/src/(\w+\.rt):(\d+):\d+: error\[?([\w-]*)\]?:? ?(.*)$", log or "", re.M):
+            for m in re.finditer(r"(?:^|/)src/(\w+\.rt):(\d+):\d+: error\[?([\w-]*)\]?:? ?(.*)$", log or "", re.M):
                 self.front.append((m.group(1), int(m.group(2)), m.group(3), m.group(4)))
 
     def of(self, f):

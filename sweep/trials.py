@@ -88,7 +88,7 @@ class Sweep:
     def check(self, files):
         self.trials += 1
         self.copy.write(self.crate.name, files)
-        return Said(self.crate.name, self.copy.run("dev", self.crate.name))
+        return Said(self.crate.name, self.copy.check(self.crate.name))
 
     def blamed(self, chosen, said):
         """The chosen functions at whose text the front end found an error. No change moves a line."""
