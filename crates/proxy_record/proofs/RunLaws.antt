@@ -2,7 +2,7 @@
 use Prim.Native.Nat.{ℕ, suc, ◌+◌, ◌<◌, ◌≤◌}
 use native.Mathlib.Omega.{arith}
 use mathlib.Core.Logic.{inl, inr, ⊎_elim}
-use mathlib.Core.Path.{◌≡◌, refl}
+use mathlib.Core.Path.{◌≡◌, refl, ap, sym, subst, ◌∙◌}
 use mathlib.Core.List.{List, [], ◌∷◌}
 use lib.ListN.{length, drop}
 use borrow.Author.Tests.{lt-leb, eq-eqb, ne_eqb}
@@ -39,9 +39,15 @@ from_run lo hi b (x ∷ l) r h =
     let k : b + suc (run_len (suc b) l) ≡ suc b + run_len (suc b) l = omega arith in
     let z : suc b ≤ suc x.number = omega arith in
     let q : x.number < b + suc (run_len (suc b) l) = omega arith in
-    rw (eq-eqb x.number b e, lt-leb (b + suc (run_len (suc b) l)) x.number q, k)
-    (from_run (suc x.number) hi (suc b) l r.2 z))
-    (λ e. rw (ne_eqb x.number b e) (from_all lo hi (b + 0) (x ∷ l) r (omega arith)))
+    let u : run_len b (x ∷ l) ≡ suc (run_len (suc b) l) = rw (eq-eqb x.number b e) in
+    let f : from (b + suc (run_len (suc b) l)) l ≡ drop (run_len (suc b) l) l =
+    subst (λ v. from v l ≡ drop (run_len (suc b) l) l) (sym k) (from_run (suc x.number) hi (suc b) l r.2 z) in
+    let g : from (b + suc (run_len (suc b) l)) (x ∷ l) ≡ drop (suc (run_len (suc b) l)) (x ∷ l) =
+    rw (lt-leb (b + suc (run_len (suc b) l)) x.number q) f in
+    subst (λ v. from (b + v) (x ∷ l) ≡ drop v (x ∷ l)) (sym u) g)
+    (λ e.
+    let u : run_len b (x ∷ l) ≡ 0 = rw (ne_eqb x.number b e) in
+    subst (λ v. from (b + v) (x ∷ l) ≡ drop v (x ∷ l)) (sym u) (from_all lo hi (b + 0) (x ∷ l) r (omega arith)))
     (split_eq x.number b)
 
 -- what a run passes over is tracked, and where it stops is not
@@ -68,9 +74,14 @@ run_stops lo hi b (x ∷ l) r h =
     let k : b + suc (run_len (suc b) l) ≡ suc b + run_len (suc b) l = omega arith in
     let j : suc b ≤ suc x.number = omega arith in
     let i : x.number ≡ suc b + run_len (suc b) l → ⊥ = λ f. omega arith in
-    rw (eq-eqb x.number b e, k) (untracked_cons (suc b + run_len (suc b) l) x l i (run_stops (suc x.number) hi (suc b) l r.2 j)))
+    let u : run_len b (x ∷ l) ≡ suc (run_len (suc b) l) = rw (eq-eqb x.number b e) in
+    let g : Tracked (suc b + run_len (suc b) l) (x ∷ l) → ⊥ =
+    untracked_cons (suc b + run_len (suc b) l) x l i (run_stops (suc x.number) hi (suc b) l r.2 j) in
+    subst (λ v. Tracked v (x ∷ l) → ⊥) (sym (ap (λ v. b + v) u ∙ k)) g)
     (λ e.
     let j : b + 0 < suc x.number = omega (arith, r.0) in
     let i : x.number ≡ b + 0 → ⊥ = λ f. e (omega arith) in
-    rw (ne_eqb x.number b e) (untracked_cons (b + 0) x l i (untracked_low (suc x.number) hi (b + 0) l r.2 j)))
+    let u : run_len b (x ∷ l) ≡ 0 = rw (ne_eqb x.number b e) in
+    let g : Tracked (b + 0) (x ∷ l) → ⊥ = untracked_cons (b + 0) x l i (untracked_low (suc x.number) hi (b + 0) l r.2 j) in
+    subst (λ v. Tracked (b + v) (x ∷ l) → ⊥) (sym u) g)
     (split_eq x.number b)
