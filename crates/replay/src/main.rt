@@ -2,19 +2,20 @@
 // Input and lines may have any length. The work is that of crate `replay_lines`; here it is fed and what it says is written.
 #![tactic(auto)]
 
-ghost use Rattle.std.specs.Prelude.{◌≡◌, ◌≤◌, length};
+ghost use Rattle.std.specs.Prelude.{◌≡◌, ◌≤◌, length, IfOk, OnOk, OnErr};
 ghost use Rattle.outcome.specs.Lent.{over};
 ghost use Rattle.proxy_record.specs.State.{fresh_proxy};
 ghost use Rattle.proxy_record.specs.Words.{proxy_words};
 ghost use Rattle.proxy_record.specs.Rules.{GoodProxy};
 ghost use Rattle.replay_lines.specs.Feed.{piece_most, feeding, fed_through, said_through};
-ghost use Rattle.replay.specs.Run.{FedFront, FedSome, RanToEnd};
+ghost use Rattle.replay.specs.Run.{FedFront, FedSome, RanToEnd, WithSome};
 
-use libc::{STDIN_FILENO, STDOUT_FILENO};
 use line_text::hold::front;
 use proxy_record::layout::PROXY_WORDS;
 use replay_lines::answer::ROOM;
 use replay_lines::feed::{HELD, PIECE, SAID, close, feed};
+use std::io;
+use std::io::Read;
 use writer_proxy::set_up::set_up;
 
 // Whether the input is at its end, and how many bytes are held of a line.
@@ -33,109 +34,132 @@ fn said_buffer() -> [u8; SAID]
 
 // What a read gave, answered, all of it: how many bytes are held of the line that it ends in.
 fn replay_piece(
+    rt: &impl Print,
     words: &mut [u64],
     list: &mut [i64; ROOM],
     held: &mut [u8; HELD],
     count: usize,
     piece: &[u8],
     out: &mut [u8; SAID],
-) -> usize
+) -> io::Result<usize>
     requires { GoodProxy words.old × (length piece.now ≤ piece_most) }
-    ensures result_after { feeding words.new list.new held.new result ≡ fed_through piece.now (feeding words.old list.old held.old count) }
+    ensures result_after { IfOk result (λ n. feeding words.new list.new held.new n ≡ fed_through piece.now (feeding words.old list.old held.old count)) }
+    ensures failed { OnErr result (WithSome words.new list.new held.new (λ r. r ≡ fed_through piece.now (feeding words.old list.old held.old count))) }
     ensures out_after { out.new ≡ over (said_through piece.now (feeding words.old list.old held.old count)) out.old }
     ensures good_proxy { GoodProxy words.new }
 {
     let fed = feed(words, list, held, count, piece, out);
-    io::write_all(STDOUT_FILENO, front(out, fed.wrote));
-    fed.count
+    rt.write_all(front(out, fed.wrote))?;
+    Ok(fed.count)
 }
 
 // A read, answered.
 fn replay_some(
+    reader: &mut impl Read,
+    rt: &impl Print,
     words: &mut [u64],
     list: &mut [i64; ROOM],
     held: &mut [u8; HELD],
     count: usize,
     input: &mut [u8; PIECE],
     out: &mut [u8; SAID],
-) -> Turn
+) -> io::Result<Turn>
     requires { GoodProxy words.old }
-    ensures fed_front { FedFront input.new (feeding words.old list.old held.old count) (feeding words.new list.new held.new result.count) }
+    ensures fed_front { IfOk result (λ t. FedFront input.new (feeding words.old list.old held.old count) (feeding words.new list.new held.new t.count)) }
+    ensures failed { OnErr result (WithSome words.new list.new held.new (FedFront input.new (feeding words.old list.old held.old count))) }
     ensures good_proxy { GoodProxy words.new }
 {
-    let got = libc::read(STDIN_FILENO, input);
-    if got <= 0 {
-        return Turn { over: true, count };
+    let end = reader.read(input)?;
+    if end == 0 {
+        return Ok(Turn { over: true, count });
     }
-    let end = io::count(got, input);
     let piece = front(input, end);
-    let n = replay_piece(words, list, held, count, piece, out);
-    Turn {
+    let n = replay_piece(rt, words, list, held, count, piece, out)?;
+    Ok(Turn {
         over: false,
         count: n,
-    }
+    })
 }
 
 // All input: how many bytes are held of a last line. A proved loop has to end, and nothing says that the input does: no run uses its turns up.
 fn replay_input(
+    reader: &mut impl Read,
+    rt: &impl Print,
     words: &mut [u64],
     list: &mut [i64; ROOM],
     held: &mut [u8; HELD],
     input: &mut [u8; PIECE],
     out: &mut [u8; SAID],
-) -> usize
+) -> io::Result<usize>
     requires { GoodProxy words.old }
-    ensures fed_some { FedSome (feeding words.old list.old held.old 0) (feeding words.new list.new held.new result) }
+    ensures fed_some { IfOk result (λ n. FedSome (feeding words.old list.old held.old 0) (feeding words.new list.new held.new n)) }
+    ensures failed { OnErr result (WithSome words.new list.new held.new (FedSome (feeding words.old list.old held.old 0))) }
     ensures good_proxy { GoodProxy words.new }
 {
     let mut n = 0;
     let mut turns = u64::MAX;
     while turns > 0 {
-        let turn = replay_some(words, list, held, n, input, out);
+        let turn = replay_some(reader, rt, words, list, held, n, input, out)?;
         n = turn.count;
         if turn.over {
-            return n;
+            return Ok(n);
         }
         turns -= 1;
     }
-    n
+    Ok(n)
 }
 
 // All input, and a last line that lacks its line feed.
 fn replay_all(
+    reader: &mut impl Read,
+    rt: &impl Print,
     words: &mut [u64],
     list: &mut [i64; ROOM],
     held: &mut [u8; HELD],
     input: &mut [u8; PIECE],
     out: &mut [u8; SAID],
-)
+) -> io::Result<()>
     requires { GoodProxy words.old }
-    ensures { RanToEnd (feeding words.old list.old held.old 0) words.new list.new held.new out.new }
+    ensures ran { OnOk result (RanToEnd (feeding words.old list.old held.old 0) words.new list.new held.new out.new) }
+    ensures failed { OnErr result (WithSome words.new list.new held.new (FedSome (feeding words.old list.old held.old 0))) }
+    ensures good_proxy { GoodProxy words.new }
 {
-    let n = replay_input(words, list, held, input, out);
+    let n = replay_input(reader, rt, words, list, held, input, out)?;
     let wrote = close(words, list, held, n, out);
-    io::write_all(STDOUT_FILENO, front(out, wrote));
+    rt.write_all(front(out, wrote))
 }
 
 // The same from a fresh proxy on.
 fn replay(
+    reader: &mut impl Read,
+    rt: &impl Print,
     words: &mut [u64; PROXY_WORDS],
     list: &mut [i64; ROOM],
     held: &mut [u8; HELD],
     input: &mut [u8; PIECE],
     out: &mut [u8; SAID],
-)
-    ensures { RanToEnd (feeding (proxy_words fresh_proxy) list.old held.old 0) words.new list.new held.new out.new }
+) -> io::Result<()>
+    ensures ran { OnOk result (RanToEnd (feeding (proxy_words fresh_proxy) list.old held.old 0) words.new list.new held.new out.new) }
+    ensures failed { OnErr result (WithSome words.new list.new held.new (FedSome (feeding (proxy_words fresh_proxy) list.old held.old 0))) }
+    ensures good_proxy { GoodProxy words.new }
 {
     set_up(words);
-    replay_all(words, list, held, input, out);
+    replay_all(reader, rt, words, list, held, input, out)
 }
 
-fn main() {
+fn main(rt: HostRuntime) -> io::Result<()> {
     let mut words = [0u64; PROXY_WORDS];
     let mut list = [0i64; ROOM];
     let mut held = [0u8; HELD];
     let mut input = [0u8; PIECE];
     let mut out = said_buffer();
-    replay(&mut words, &mut list, &mut held, &mut input, &mut out);
+    replay(
+        &mut rt.reader(),
+        &rt,
+        &mut words,
+        &mut list,
+        &mut held,
+        &mut input,
+        &mut out,
+    )
 }

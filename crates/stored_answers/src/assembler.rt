@@ -17,6 +17,7 @@ use fragment_assembler::query::{in_assembly, is_partially_received};
 use fragment_assembler::set_up::set_up;
 use fragment_assembler::view::view;
 use outcome::{Listing, SetUp};
+use std::io;
 
 // Set-up's refusal, or 0.
 fn refusal_of(s: SetUp) -> u64 {
@@ -27,12 +28,12 @@ fn refusal_of(s: SetUp) -> u64 {
 }
 
 // What became of set-up, and the digest of its words: f mode p, mode 1 reliable and 0 best effort. Returned: the refusal.
-fn start(t: &mut [u64], f: u64, mode: u64, p: u64) -> u64
+fn start(rt: &impl Print, t: &mut [u64], f: u64, mode: u64, p: u64) -> io::Result<u64>
     ensures { GoodAssembler t.old → GoodAssembler t.new }
 {
     let refused = refusal_of(set_up(t, low_half(f), yes(mode), low_word(p)));
-    pair(refused, words_digest(t));
-    refused
+    pair(rt, refused, words_digest(t))?;
+    Ok(refused)
 }
 
 // What an area holds before the first fragment; nothing changes after a refusal.
@@ -50,52 +51,54 @@ fn fill_area(refused: u64, area: &mut [u8]) {
 }
 
 // f mode p
-fn start_here(t: &mut [u64], area: &mut [u8], c: Call)
+fn start_here(rt: &impl Print, t: &mut [u64], area: &mut [u8], c: Call) -> io::Result<()>
     requires { GoodAssembler t.old }
     ensures { GoodAssembler t.new }
 {
-    let refused = start(t, c.first, c.second, c.third);
+    let refused = start(rt, t, c.first, c.second, c.third)?;
     fill_area(refused, area);
+    Ok(())
 }
 
 // On other words: room f mode p.
-fn start_on(c: Call, lent: &mut [u64]) {
+fn start_on(rt: &impl Print, c: Call, lent: &mut [u64]) -> io::Result<()> {
     let n = c.first as usize;
     if lent.len() < n {
-        return no_call();
+        return no_call(rt);
     }
-    start(&mut lent[..n], c.second, c.third, c.fourth);
+    start(rt, &mut lent[..n], c.second, c.third, c.fourth)?;
+    Ok(())
 }
 
-fn start_fresh(c: Call) {
+fn start_fresh(rt: &impl Print, c: Call) -> io::Result<()> {
     let mut lent = [90u64; 1000];
-    start_on(c, &mut lent);
+    start_on(rt, c, &mut lent)
 }
 
 // A refusal; or 0 and 0; or 0, 1 and the returned number, its place and length; or 0, 2 and the dropped number.
-fn told_answer(r: Answer) {
+fn told_answer(rt: &impl Print, r: Answer) -> io::Result<()> {
     match r {
-        Answer::Refused(k) => return refusal(k),
-        Answer::Kept => return two(0, 0),
+        Answer::Refused(k) => return refusal(rt, k),
+        Answer::Kept => return two(rt, 0, 0),
         Answer::Returned {
             number,
             place,
             length,
         } => {
-            two(0, 1);
-            next(number);
-            next(place as u64);
-            next(length as u64);
+            two(rt, 0, 1)?;
+            next(rt, number)?;
+            next(rt, place as u64)?;
+            next(rt, length as u64)
         }
         Answer::Dropped(number) => {
-            two(0, 2);
-            next(number);
+            two(rt, 0, 2)?;
+            next(rt, number)
         }
     }
 }
 
 // The rest of a fragment's line: what was returned, as the view shows it.
-fn show_returned(t: &[u64], area: &[u8], r: Answer)
+fn show_returned(rt: &impl Print, t: &[u64], area: &[u8], r: Answer) -> io::Result<()>
     requires { GoodAssembler t.now }
 {
     let Answer::Returned {
@@ -104,29 +107,35 @@ fn show_returned(t: &[u64], area: &[u8], r: Answer)
         length,
     } = r
     else {
-        return show_bytes(b"");
+        return show_bytes(rt, b"");
     };
-    show_bytes(view(t, area, place, length as usize));
+    show_bytes(rt, view(t, area, place, length as usize))
 }
 
 // What became of a fragment, how many are in assembly, the digests of record and area, and what was returned.
-fn told(t: &[u64], area: &[u8], r: Answer)
+fn told(rt: &impl Print, t: &[u64], area: &[u8], r: Answer) -> io::Result<()>
     requires { GoodAssembler t.now }
 {
-    told_answer(r);
-    next(in_assembly(t) as u64);
-    next(words_digest(t));
-    next(bytes_digest(area));
-    show_returned(t, area, r);
+    told_answer(rt, r)?;
+    next(rt, in_assembly(t) as u64)?;
+    next(rt, words_digest(t))?;
+    next(rt, bytes_digest(area))?;
+    show_returned(rt, t, area, r)
 }
 
-fn take_fragment(t: &mut [u64], area: &mut [u8], c: Call, payload: &[u8])
+fn take_fragment(
+    rt: &impl Print,
+    t: &mut [u64],
+    area: &mut [u8],
+    c: Call,
+    payload: &[u8],
+) -> io::Result<()>
     requires { GoodAssembler t.old }
     ensures { GoodAssembler t.new }
 {
     let n = c.first as usize;
     if area.len() < n {
-        return no_call();
+        return no_call(rt);
     }
     let r = new_datafrag(
         t,
@@ -139,124 +148,143 @@ fn take_fragment(t: &mut [u64], area: &mut [u8], c: Call, payload: &[u8])
         low_half(c.seventh),
         payload,
     );
-    told(t, &area[..n], r);
+    told(rt, t, &area[..n], r)
 }
 
 // A fragment whose payload is read to the lent bytes.
-fn with_payload(t: &mut [u64], area: &mut [u8], c: Call, line: &[u64], bytes: &mut [u8])
+fn with_payload(
+    rt: &impl Print,
+    t: &mut [u64],
+    area: &mut [u8],
+    c: Call,
+    line: &[u64],
+    bytes: &mut [u8],
+) -> io::Result<()>
     requires { GoodAssembler t.old }
     ensures { GoodAssembler t.new }
 {
     let n = left(line, PAYLOAD);
     if bytes.len() < n {
-        return no_call();
+        return no_call(rt);
     }
     to_bytes(line, PAYLOAD, &mut bytes[..n]);
-    take_fragment(t, area, c, &bytes[..n]);
+    take_fragment(rt, t, area, c, &bytes[..n])
 }
 
 // Fragment: area time number size D start count byte ..
-fn fragment(t: &mut [u64], area: &mut [u8], c: Call, line: &[u64])
+fn fragment(
+    rt: &impl Print,
+    t: &mut [u64],
+    area: &mut [u8],
+    c: Call,
+    line: &[u64],
+) -> io::Result<()>
     requires { GoodAssembler t.old }
     ensures { GoodAssembler t.new }
 {
     let mut bytes = [0u8; 1100];
-    with_payload(t, area, c, line, &mut bytes);
+    with_payload(rt, t, area, c, line, &mut bytes)
 }
 
 // View: area place length
-fn show(t: &[u64], area: &[u8], c: Call)
+fn show(rt: &impl Print, t: &[u64], area: &[u8], c: Call) -> io::Result<()>
     requires { GoodAssembler t.now }
 {
     let n = c.first as usize;
     if area.len() < n {
-        return no_call();
+        return no_call(rt);
     }
     let shown = view(t, &area[..n], c.second as usize, c.third as usize);
-    first(shown.len() as u64);
-    show_bytes(shown);
+    first(rt, shown.len() as u64)?;
+    show_bytes(rt, shown)
 }
 
 // A refusal, or 0 and how many were dropped.
-fn told_cleaned(c: Cleaned) {
+fn told_cleaned(rt: &impl Print, c: Cleaned) -> io::Result<()> {
     match c {
-        Cleaned::Refused(k) => return refusal(k),
-        Cleaned::Dropped(n) => return two(0, n as u64),
+        Cleaned::Refused(k) => return refusal(rt, k),
+        Cleaned::Dropped(n) => return two(rt, 0, n as u64),
     }
 }
 
 // Cleaning: cutoff room
-fn clean(t: &mut [u64], c: Call, lent: &mut [i64])
+fn clean(rt: &impl Print, t: &mut [u64], c: Call, lent: &mut [i64]) -> io::Result<()>
     requires { GoodAssembler t.old }
     ensures { GoodAssembler t.new }
 {
     let n = c.second as usize;
     if lent.len() < n {
-        return no_call();
+        return no_call(rt);
     }
-    told_cleaned(garbage_collect_before(t, c.first, &mut lent[..n]));
-    next(words_digest(t));
-    show_signed(&lent[..n]);
+    told_cleaned(rt, garbage_collect_before(t, c.first, &mut lent[..n]))?;
+    next(rt, words_digest(t))?;
+    show_signed(rt, &lent[..n])
 }
 
-fn clean_lent(t: &mut [u64], c: Call)
+fn clean_lent(rt: &impl Print, t: &mut [u64], c: Call) -> io::Result<()>
     requires { GoodAssembler t.old }
     ensures { GoodAssembler t.new }
 {
     let mut lent = [90i64; 300];
-    clean(t, c, &mut lent);
+    clean(rt, t, c, &mut lent)
 }
 
 // A refusal, or 0 and how many were listed.
-fn told_listing(l: Listing) {
+fn told_listing(rt: &impl Print, l: Listing) -> io::Result<()> {
     match l {
-        Listing::Refused(k) => return refusal(k),
-        Listing::Listed(n) => return two(0, n as u64),
+        Listing::Refused(k) => return refusal(rt, k),
+        Listing::Listed(n) => return two(rt, 0, n as u64),
     }
 }
 
 // Missing fragments: number room
-fn list_missing(t: &[u64], c: Call, lent: &mut [u32])
+fn list_missing(rt: &impl Print, t: &[u64], c: Call, lent: &mut [u32]) -> io::Result<()>
     requires { GoodAssembler t.now }
 {
     let n = c.second as usize;
     if lent.len() < n {
-        return no_call();
+        return no_call(rt);
     }
-    told_listing(missing_frags_for(t, signed(c.first), &mut lent[..n]));
-    show_words(&lent[..n]);
+    told_listing(rt, missing_frags_for(t, signed(c.first), &mut lent[..n]))?;
+    show_words(rt, &lent[..n])
 }
 
-fn list_lent(t: &[u64], c: Call)
+fn list_lent(rt: &impl Print, t: &[u64], c: Call) -> io::Result<()>
     requires { GoodAssembler t.now }
 {
     let mut lent = [90u32; 300];
-    list_missing(t, c, &mut lent);
+    list_missing(rt, t, c, &mut lent)
 }
 
 // The calls that leave the record as it is. In assembly: number, or nothing for how many.
-fn ask(t: &[u64], area: &[u8], c: Call)
+fn ask(rt: &impl Print, t: &[u64], area: &[u8], c: Call) -> io::Result<()>
     requires { GoodAssembler t.now }
 {
     let code = c.code;
     match code {
-        VIEW => return show(t, area, c),
-        MISSING_FRAGMENTS => return list_lent(t, c),
-        IS_IN_ASSEMBLY => return flag(is_partially_received(t, signed(c.first))),
-        _ => return line(in_assembly(t) as u64),
+        VIEW => return show(rt, t, area, c),
+        MISSING_FRAGMENTS => return list_lent(rt, t, c),
+        IS_IN_ASSEMBLY => return flag(rt, is_partially_received(t, signed(c.first))),
+        _ => return line(rt, in_assembly(t) as u64),
     }
 }
 
-pub(crate) fn call(t: &mut [u64], area: &mut [u8], c: Call, line: &[u64])
+pub(crate) fn call(
+    rt: &impl Print,
+    t: &mut [u64],
+    area: &mut [u8],
+    c: Call,
+    line: &[u64],
+) -> io::Result<()>
     requires { GoodAssembler t.old }
     ensures { GoodAssembler t.new }
 {
     let code = c.code;
     match code {
-        SET_UP_ASSEMBLER => return start_here(t, area, c),
-        SET_UP_ASSEMBLER_ON => return start_fresh(c),
-        FRAGMENT => return fragment(t, area, c, line),
-        CLEAN => return clean_lent(t, c),
-        _ => return ask(t, area, c),
+        SET_UP_ASSEMBLER => return start_here(rt, t, area, c),
+        SET_UP_ASSEMBLER_ON => return start_fresh(rt, c),
+        FRAGMENT => return fragment(rt, t, area, c, line),
+        CLEAN => return clean_lent(rt, t, c),
+        _ => return ask(rt, t, area, c),
     }
 }

@@ -19,7 +19,7 @@ mod out;
 mod proxy;
 mod sets;
 
-ghost use Rattle.std.specs.Prelude.{◌≡◌, ◌<◌, ◌≤◌, length};
+ghost use Rattle.std.specs.Prelude.{◌≡◌, ◌<◌, ◌≤◌, length, IfOk};
 ghost use Rattle.proxy_record.specs.Words.{proxy_size};
 ghost use Rattle.proxy_record.specs.Rules.{GoodProxy};
 ghost use Rattle.assembly_record.specs.Rules.{GoodAssembler};
@@ -27,91 +27,124 @@ ghost use Rattle.assembly_record.specs.Rules.{GoodAssembler};
 use crate::codes::{OF_ASSEMBLER, OF_COUNTER, OF_PROXY, takes};
 use crate::line::{call_of, read_line};
 use crate::out::no_call;
-use libc::STDIN_FILENO;
 use outcome::SetUp;
+use std::io;
+use std::io::Read;
 
 // A call, made and answered.
-fn answer(proxy: &mut [u64], assembler: &mut [u64], area: &mut [u8], line: &[u64])
+fn answer(
+    rt: &impl Print,
+    proxy: &mut [u64],
+    assembler: &mut [u64],
+    area: &mut [u8],
+    line: &[u64],
+) -> io::Result<()>
     requires { GoodProxy proxy.old × GoodAssembler assembler.old }
     ensures { GoodProxy proxy.new × GoodAssembler assembler.new }
 {
     let c = call_of(line);
     if !takes(c.code, line.len()) {
-        return no_call();
+        return no_call(rt);
     }
     let engine = c.code / 16;
     match engine {
-        OF_ASSEMBLER => return assembler::call(assembler, area, c, line),
-        OF_PROXY => return proxy::call(proxy, c),
-        OF_COUNTER => return counter::call(c.first),
-        _ => return sets::call(c, line),
+        OF_ASSEMBLER => return assembler::call(rt, assembler, area, c, line),
+        OF_PROXY => return proxy::call(rt, proxy, c),
+        OF_COUNTER => return counter::call(rt, c.first),
+        _ => return sets::call(rt, c, line),
     }
 }
 
 // The line that starts at a place, answered: where the next one starts.
 fn answer_line(
+    rt: &impl Print,
     proxy: &mut [u64],
     assembler: &mut [u64],
     area: &mut [u8],
     words: &mut [u64],
     input: &[u8],
     at: usize,
-) -> usize
+) -> io::Result<usize>
     requires { GoodProxy proxy.old × (GoodAssembler assembler.old × (at < length input.now)) }
-    ensures { GoodProxy proxy.new × (GoodAssembler assembler.new × ((at < result) × (result ≤ length input.now))) }
+    ensures good_records { GoodProxy proxy.new × GoodAssembler assembler.new }
+    ensures further { IfOk result (λ next. (at < next) × (next ≤ length input.now)) }
 {
     let l = read_line(input, at, words);
     let n = l.count;
-    answer(proxy, assembler, area, &words[..n]);
-    l.next
+    answer(rt, proxy, assembler, area, &words[..n])?;
+    Ok(l.next)
 }
 
 // All lines, on good records.
 fn answer_lines(
+    rt: &impl Print,
     proxy: &mut [u64],
     assembler: &mut [u64],
     area: &mut [u8],
     words: &mut [u64],
     input: &[u8],
-)
+) -> io::Result<()>
     requires { GoodProxy proxy.old × GoodAssembler assembler.old }
 {
     let mut at = 0;
     while at < input.len() {
-        at = answer_line(proxy, assembler, area, words, input, at);
+        at = answer_line(rt, proxy, assembler, area, words, input, at)?;
     }
+    Ok(())
 }
 
 // Both records from set-up, so that they are good from the first line on.
-fn run(proxy: &mut [u64], assembler: &mut [u64], area: &mut [u8], words: &mut [u64], input: &[u8])
+fn run(
+    rt: &impl Print,
+    proxy: &mut [u64],
+    assembler: &mut [u64],
+    area: &mut [u8],
+    words: &mut [u64],
+    input: &[u8],
+) -> io::Result<()>
     requires { (length proxy.old ≡ proxy_size) × (length assembler.old ≡ 906) }
 {
     writer_proxy::set_up::set_up(proxy);
     let SetUp::Ready = fragment_assembler::set_up::set_up(assembler, 1, true, 1) else {
-        return;
+        return Ok(());
     };
-    answer_lines(proxy, assembler, area, words, input);
+    answer_lines(rt, proxy, assembler, area, words, input)
 }
 
 // What was read, with fresh records and words lent. A large array is lent as an array first: its length is then part of its type.
-fn with_records(area: &mut [u8; 264200], input: &[u8]) {
+fn with_records(rt: &impl Print, area: &mut [u8; 264200], input: &[u8]) -> io::Result<()> {
     let mut proxy = [0u64; 775];
     let mut assembler = [0u64; 906];
     let mut words = [0u64; 1200];
-    run(&mut proxy, &mut assembler, area, &mut words, input);
+    run(rt, &mut proxy, &mut assembler, area, &mut words, input)
 }
 
-fn answer_input(input: &mut [u8]) {
-    let n = io::read_full(STDIN_FILENO, input);
+// Reads until all that is lent holds bytes or the input ends: how many were read.
+fn read_full(reader: &mut impl Read, input: &mut [u8]) -> io::Result<usize>
+    ensures { IfOk result (λ n. n ≤ length input.new) }
+{
+    let mut done = 0;
+    while done < input.len() {
+        let n = reader.read(&mut input[done..])?;
+        if n == 0 {
+            break;
+        }
+        done += n;
+    }
+    Ok(done)
+}
+
+fn answer_input(rt: &(impl Input + Print), input: &mut [u8]) -> io::Result<()> {
+    let n = read_full(&mut rt.reader(), input)?;
     let mut area = [0u8; 264200];
-    with_records(&mut area, &input[..n]);
+    with_records(rt, &mut area, &input[..n])
 }
 
-fn with_input(input: &mut [u8; 400000]) {
-    answer_input(input);
+fn with_input(rt: &(impl Input + Print), input: &mut [u8; 400000]) -> io::Result<()> {
+    answer_input(rt, input)
 }
 
-fn main() {
+fn main(rt: HostRuntime) -> io::Result<()> {
     let mut input = [0u8; 400000];
-    with_input(&mut input);
+    with_input(&rt, &mut input)
 }

@@ -1,51 +1,50 @@
 // What is written: words in hexadecimal with a space between them, an answer a line. Negative numbers are two's complement.
-use libc::STDOUT_FILENO;
 use sequence_number::number::natural;
+use std::io;
 
 // The first word of a line.
-pub(crate) fn first(n: u64) {
-    io::print_hex(STDOUT_FILENO, n, 1);
+pub(crate) fn first(rt: &impl Print, n: u64) -> io::Result<()> {
+    print!(rt; "{n:x}")
 }
 
 // A word after the first.
-pub(crate) fn next(n: u64) {
-    io::write_all(STDOUT_FILENO, b" ");
-    io::print_hex(STDOUT_FILENO, n, 1);
+pub(crate) fn next(rt: &impl Print, n: u64) -> io::Result<()> {
+    print!(rt; " {n:x}")
 }
 
-pub(crate) fn end() {
-    io::write_all(STDOUT_FILENO, b"\n");
+pub(crate) fn end(rt: &impl Print) -> io::Result<()> {
+    rt.write_all(b"\n")
 }
 
 // The answer to a line that is no call.
-pub(crate) fn no_call() {
-    io::write_all(STDOUT_FILENO, b"?\n");
+pub(crate) fn no_call(rt: &impl Print) -> io::Result<()> {
+    rt.write_all(b"?\n")
 }
 
 // A line of one word.
-pub(crate) fn line(n: u64) {
-    first(n);
-    end();
+pub(crate) fn line(rt: &impl Print, n: u64) -> io::Result<()> {
+    first(rt, n)?;
+    end(rt)
 }
 
 // A line of one word, 1 for true.
-pub(crate) fn flag(b: bool) {
+pub(crate) fn flag(rt: &impl Print, b: bool) -> io::Result<()> {
     if b {
-        return line(1);
+        return line(rt, 1);
     }
-    line(0);
+    line(rt, 0)
 }
 
 // The first two words of a line.
-pub(crate) fn two(a: u64, b: u64) {
-    first(a);
-    next(b);
+pub(crate) fn two(rt: &impl Print, a: u64, b: u64) -> io::Result<()> {
+    first(rt, a)?;
+    next(rt, b)
 }
 
 // A line of two words.
-pub(crate) fn pair(a: u64, b: u64) {
-    two(a, b);
-    end();
+pub(crate) fn pair(rt: &impl Print, a: u64, b: u64) -> io::Result<()> {
+    two(rt, a, b)?;
+    end(rt)
 }
 
 fn wide(x: u8) -> u64 {
@@ -57,8 +56,8 @@ fn wide_word(x: u32) -> u64 {
 }
 
 // The first word of a line: a refusal number.
-pub(crate) fn refusal(k: u8) {
-    first(wide(k));
+pub(crate) fn refusal(rt: &impl Print, k: u8) -> io::Result<()> {
+    first(rt, wide(k))
 }
 
 // A signed number's two's complement bits.
@@ -70,31 +69,31 @@ pub(crate) fn bits_of(n: i64) -> u64 {
 }
 
 // The rest of a line: bytes.
-pub(crate) fn show_bytes(s: &[u8]) {
+pub(crate) fn show_bytes(rt: &impl Print, s: &[u8]) -> io::Result<()> {
     let mut i = 0;
     while i < s.len() {
-        next(wide(s[i]));
+        next(rt, wide(s[i]))?;
         i += 1;
     }
-    end();
+    end(rt)
 }
 
 // The rest of a line: fragment numbers, or a set's words.
-pub(crate) fn show_words(s: &[u32]) {
+pub(crate) fn show_words(rt: &impl Print, s: &[u32]) -> io::Result<()> {
     let mut i = 0;
     while i < s.len() {
-        next(wide_word(s[i]));
+        next(rt, wide_word(s[i]))?;
         i += 1;
     }
-    end();
+    end(rt)
 }
 
 // The rest of a line: sequence numbers.
-pub(crate) fn show_signed(s: &[i64]) {
+pub(crate) fn show_signed(rt: &impl Print, s: &[i64]) -> io::Result<()> {
     let mut i = 0;
     while i < s.len() {
-        next(bits_of(s[i]));
+        next(rt, bits_of(s[i]))?;
         i += 1;
     }
-    end();
+    end(rt)
 }

@@ -11,6 +11,7 @@ use crate::line::Call;
 use crate::out::{end, flag, line, next, no_call, pair, refusal, show_signed, two};
 use outcome::{Listing, SetUp};
 use proxy_steps::Report;
+use std::io;
 use writer_proxy::irrelevant::{
     irrelevant_changes_range, irrelevant_changes_up_to, set_irrelevant_change,
 };
@@ -22,46 +23,46 @@ use writer_proxy::received::received_changes_add;
 use writer_proxy::set_up::set_up;
 
 // A set-up's refusal, or 0.
-fn told_set_up(r: SetUp) {
+fn told_set_up(rt: &impl Print, r: SetUp) -> io::Result<()> {
     match r {
-        SetUp::Refused(k) => return refusal(k),
-        SetUp::Ready => return refusal(0),
+        SetUp::Refused(k) => return refusal(rt, k),
+        SetUp::Ready => return refusal(rt, 0),
     }
 }
 
 // What became of set-up, and the digest of its words.
-fn start(t: &mut [u64])
+fn start(rt: &impl Print, t: &mut [u64]) -> io::Result<()>
     ensures { GoodProxy t.old → GoodProxy t.new }
 {
-    told_set_up(set_up(t));
-    next(words_digest(t));
-    end();
+    told_set_up(rt, set_up(t))?;
+    next(rt, words_digest(t))?;
+    end(rt)
 }
 
 // On other words: room.
-fn start_on(room: u64, lent: &mut [u64]) {
+fn start_on(rt: &impl Print, room: u64, lent: &mut [u64]) -> io::Result<()> {
     let n = room as usize;
     if lent.len() < n {
-        return no_call();
+        return no_call(rt);
     }
-    start(&mut lent[..n]);
+    start(rt, &mut lent[..n])
 }
 
-fn start_fresh(room: u64) {
+fn start_fresh(rt: &impl Print, room: u64) -> io::Result<()> {
     let mut lent = [90u64; 1000];
-    start_on(room, &mut lent);
+    start_on(rt, room, &mut lent)
 }
 
 // A refusal; or 0 and 0; or 0, 1 and the forced step.
-fn told_report(r: Report) {
+fn told_report(rt: &impl Print, r: Report) -> io::Result<()> {
     match r {
-        Report::Done => return two(0, 0),
+        Report::Done => return two(rt, 0, 0),
         Report::Forced(old, new) => {
-            two(0, 1);
-            next(old);
-            next(new);
+            two(rt, 0, 1)?;
+            next(rt, old)?;
+            next(rt, new)
         }
-        Report::Refused(k) => return refusal(k),
+        Report::Refused(k) => return refusal(rt, k),
     }
 }
 
@@ -80,80 +81,83 @@ fn changed(t: &mut [u64], code: u64, first: u64, second: u64) -> Report
 }
 
 // What became of a change, the base after it, and the digest of the record.
-fn change(t: &mut [u64], c: Call)
+fn change(rt: &impl Print, t: &mut [u64], c: Call) -> io::Result<()>
     requires { GoodProxy t.old }
     ensures { GoodProxy t.new }
 {
-    told_report(changed(t, c.code, c.first, c.second));
-    next(all_ackable_before(t));
-    next(words_digest(t));
-    end();
+    told_report(rt, changed(t, c.code, c.first, c.second))?;
+    next(rt, all_ackable_before(t))?;
+    next(rt, words_digest(t))?;
+    end(rt)
 }
 
-fn told_status(s: Status) {
+fn told_status(rt: &impl Print, s: Status) -> io::Result<()> {
     match s {
-        Status::Untracked => return line(0),
-        Status::NotAvailable => return line(1),
-        Status::Received(time) => return pair(2, time),
+        Status::Untracked => return line(rt, 0),
+        Status::NotAvailable => return line(rt, 1),
+        Status::Received(time) => return pair(rt, 2, time),
     }
 }
 
-fn told_last(l: LastReceived) {
+fn told_last(rt: &impl Print, l: LastReceived) -> io::Result<()> {
     match l {
-        LastReceived::Nothing => return line(0),
-        LastReceived::Number(number, time) => return pair(number, time),
+        LastReceived::Nothing => return line(rt, 0),
+        LastReceived::Number(number, time) => return pair(rt, number, time),
     }
 }
 
 // Ignored and status: number. Last and base: nothing.
-fn ask(t: &[u64], code: u64, number: u64)
+fn ask(rt: &impl Print, t: &[u64], code: u64, number: u64) -> io::Result<()>
     requires { GoodProxy t.now }
 {
     match code {
-        IS_IGNORED => return flag(should_ignore_change(t, signed(number))),
-        STATUS => return told_status(change_status(t, signed(number))),
-        LAST => return told_last(last_received(t)),
-        _ => return line(all_ackable_before(t)),
+        IS_IGNORED => return flag(rt, should_ignore_change(t, signed(number))),
+        STATUS => return told_status(rt, change_status(t, signed(number))),
+        LAST => return told_last(rt, last_received(t)),
+        _ => return line(rt, all_ackable_before(t)),
     }
 }
 
 // A refusal, or 0 and how many were listed.
-fn told_listing(l: Listing) {
+fn told_listing(rt: &impl Print, l: Listing) -> io::Result<()> {
     match l {
-        Listing::Refused(k) => return refusal(k),
-        Listing::Listed(n) => return two(0, n as u64),
+        Listing::Refused(k) => return refusal(rt, k),
+        Listing::Listed(n) => return two(rt, 0, n as u64),
     }
 }
 
 // Missing numbers: start end room.
-fn list_missing(t: &[u64], c: Call, lent: &mut [i64])
+fn list_missing(rt: &impl Print, t: &[u64], c: Call, lent: &mut [i64]) -> io::Result<()>
     requires { GoodProxy t.now }
 {
     let n = c.third as usize;
     if lent.len() < n {
-        return no_call();
+        return no_call(rt);
     }
-    told_listing(missing_seqnums(t, signed(c.first), signed(c.second), &mut lent[..n]));
-    show_signed(&lent[..n]);
+    told_listing(
+        rt,
+        missing_seqnums(t, signed(c.first), signed(c.second), &mut lent[..n]),
+    )?;
+    show_signed(rt, &lent[..n])
 }
 
-fn list_lent(t: &[u64], c: Call)
+fn list_lent(rt: &impl Print, t: &[u64], c: Call) -> io::Result<()>
     requires { GoodProxy t.now }
 {
     let mut lent = [90i64; 300];
-    list_missing(t, c, &mut lent);
+    list_missing(rt, t, c, &mut lent)
 }
 
-pub(crate) fn call(t: &mut [u64], c: Call)
+pub(crate) fn call(rt: &impl Print, t: &mut [u64], c: Call) -> io::Result<()>
     requires { GoodProxy t.old }
     ensures { GoodProxy t.new }
 {
     let code = c.code;
     match code {
-        SET_UP_PROXY => return start(t),
-        SET_UP_PROXY_ON => return start_fresh(c.first),
-        RECEIVED..=IRRELEVANT_UP_TO => return change(t, c),
-        MISSING_NUMBERS => return list_lent(t, c),
-        _ => return ask(t, code, c.first),
+        SET_UP_PROXY => return start(rt, t),
+        SET_UP_PROXY_ON => return start_fresh(rt, c.first),
+        RECEIVED..=IRRELEVANT_UP_TO => return change(rt, t, c),
+        MISSING_NUMBERS => return list_lent(rt, t, c),
+        _ => return ask(rt, t, code, c.first),
     }
 }

@@ -21,6 +21,7 @@ use sequence_number::wire::{
     FragmentNumberRead, SequenceNumberRead, Written, read_fragment_number, read_sequence_number,
     write_fragment_number, write_sequence_number,
 };
+use std::io;
 
 // A set by its base and count, and its words from a place of the line on.
 fn sequence_set(base: u64, count: u64, line: &[u64], at: usize) -> SequenceNumberSet
@@ -46,10 +47,10 @@ fn fragment_set(base: u64, count: u64, line: &[u64], at: usize) -> FragmentNumbe
 }
 
 // A refusal, or 0 and how many bytes were written.
-fn told_written(w: Written) {
+fn told_written(rt: &impl Print, w: Written) -> io::Result<()> {
     match w {
-        Written::Refused(k) => return refusal(k),
-        Written::Wrote(n) => return two(0, n as u64),
+        Written::Refused(k) => return refusal(rt, k),
+        Written::Wrote(n) => return two(rt, 0, n as u64),
     }
 }
 
@@ -70,182 +71,205 @@ fn write_any(c: Call, o: ByteOrder, line: &[u64], lent: &mut [u8]) -> Written {
 }
 
 // A number written: order room number. A set written: order room set.
-fn write(c: Call, line: &[u64], lent: &mut [u8]) {
+fn write(rt: &impl Print, c: Call, line: &[u64], lent: &mut [u8]) -> io::Result<()> {
     let n = c.second as usize;
     if lent.len() < n {
-        return no_call();
+        return no_call(rt);
     }
-    told_written(write_any(c, order(c.first), line, &mut lent[..n]));
-    show_bytes(&lent[..n]);
+    told_written(rt, write_any(c, order(c.first), line, &mut lent[..n]))?;
+    show_bytes(rt, &lent[..n])
 }
 
-fn told_sequence_number(r: SequenceNumberRead) {
+fn told_sequence_number(rt: &impl Print, r: SequenceNumberRead) -> io::Result<()> {
     match r {
-        SequenceNumberRead::Refused(k) => return line(k as u64),
-        SequenceNumberRead::Number(n) => return pair(0, bits_of(n)),
+        SequenceNumberRead::Refused(k) => return line(rt, k as u64),
+        SequenceNumberRead::Number(n) => return pair(rt, 0, bits_of(n)),
     }
 }
 
-fn told_fragment_number(r: FragmentNumberRead) {
+fn told_fragment_number(rt: &impl Print, r: FragmentNumberRead) -> io::Result<()> {
     match r {
-        FragmentNumberRead::Refused(k) => return line(k as u64),
-        FragmentNumberRead::Number(n) => return pair(0, n as u64),
+        FragmentNumberRead::Refused(k) => return line(rt, k as u64),
+        FragmentNumberRead::Number(n) => return pair(rt, 0, n as u64),
     }
 }
 
 // Refusal, bytes taken, base, count and words.
-fn told_set(refused: u8, taken: usize, base: u64, count: u32, words: [u32; 8]) {
-    refusal(refused);
-    next(taken as u64);
-    next(base);
-    next(count as u64);
-    show_words(&words);
+fn told_set(
+    rt: &impl Print,
+    refused: u8,
+    taken: usize,
+    base: u64,
+    count: u32,
+    words: [u32; 8],
+) -> io::Result<()> {
+    refusal(rt, refused)?;
+    next(rt, taken as u64)?;
+    next(rt, base)?;
+    next(rt, count as u64)?;
+    show_words(rt, &words)
 }
 
-fn told_sequence_set(refused: u8, taken: usize, set: SequenceNumberSet) {
+fn told_sequence_set(
+    rt: &impl Print,
+    refused: u8,
+    taken: usize,
+    set: SequenceNumberSet,
+) -> io::Result<()> {
     let words = set.words;
-    told_set(refused, taken, bits_of(set.base), set.count, words);
+    told_set(rt, refused, taken, bits_of(set.base), set.count, words)
 }
 
-fn told_fragment_set(refused: u8, taken: usize, set: FragmentNumberSet) {
+fn told_fragment_set(
+    rt: &impl Print,
+    refused: u8,
+    taken: usize,
+    set: FragmentNumberSet,
+) -> io::Result<()> {
     let words = set.words;
-    told_set(refused, taken, set.base as u64, set.count, words);
+    told_set(rt, refused, taken, set.base as u64, set.count, words)
 }
 
-fn read_sequence_set(o: ByteOrder, bytes: &[u8]) {
+fn read_sequence_set(rt: &impl Print, o: ByteOrder, bytes: &[u8]) -> io::Result<()> {
     let read = SequenceNumberSet::read_from(o, bytes);
     let set = read.set;
-    told_sequence_set(read.refusal, read.taken, set);
+    told_sequence_set(rt, read.refusal, read.taken, set)
 }
 
-fn read_fragment_set(o: ByteOrder, bytes: &[u8]) {
+fn read_fragment_set(rt: &impl Print, o: ByteOrder, bytes: &[u8]) -> io::Result<()> {
     let read = FragmentNumberSet::read_from(o, bytes);
     let set = read.set;
-    told_fragment_set(read.refusal, read.taken, set);
+    told_fragment_set(rt, read.refusal, read.taken, set)
 }
 
-fn read_any(code: u64, o: ByteOrder, bytes: &[u8]) {
+fn read_any(rt: &impl Print, code: u64, o: ByteOrder, bytes: &[u8]) -> io::Result<()> {
     match code {
-        READ_SEQUENCE_NUMBER => return told_sequence_number(read_sequence_number(o, bytes)),
-        READ_FRAGMENT_NUMBER => return told_fragment_number(read_fragment_number(o, bytes)),
-        READ_SEQUENCE_SET => return read_sequence_set(o, bytes),
-        _ => return read_fragment_set(o, bytes),
+        READ_SEQUENCE_NUMBER => return told_sequence_number(rt, read_sequence_number(o, bytes)),
+        READ_FRAGMENT_NUMBER => return told_fragment_number(rt, read_fragment_number(o, bytes)),
+        READ_SEQUENCE_SET => return read_sequence_set(rt, o, bytes),
+        _ => return read_fragment_set(rt, o, bytes),
     }
 }
 
 // A number or a set read: order byte ..
-fn read(c: Call, line: &[u64], bytes: &mut [u8]) {
+fn read(rt: &impl Print, c: Call, line: &[u64], bytes: &mut [u8]) -> io::Result<()> {
     let n = left(line, LIST);
     if bytes.len() < n {
-        return no_call();
+        return no_call(rt);
     }
     to_bytes(line, LIST, &mut bytes[..n]);
-    read_any(c.code, order(c.first), &bytes[..n]);
+    read_any(rt, c.code, order(c.first), &bytes[..n])
 }
 
 // A refusal, or 0 and how many were listed.
-fn told_walked(w: Walked) {
+fn told_walked(rt: &impl Print, w: Walked) -> io::Result<()> {
     match w {
-        Walked::Refused(k) => return refusal(k),
-        Walked::Listed(n) => return two(0, n as u64),
+        Walked::Refused(k) => return refusal(rt, k),
+        Walked::Listed(n) => return two(rt, 0, n as u64),
     }
 }
 
 // A set walked: way room set, way 1 rising and 0 falling.
-fn walk_sequence(c: Call, line: &[u64], lent: &mut [i64]) {
+fn walk_sequence(rt: &impl Print, c: Call, line: &[u64], lent: &mut [i64]) -> io::Result<()> {
     let n = c.second as usize;
     if lent.len() < n {
-        return no_call();
+        return no_call(rt);
     }
     let set = sequence_set(c.third, c.fourth, line, SET_AND_ROOM);
-    told_walked(set.iter(yes(c.first), &mut lent[..n]));
-    show_signed(&lent[..n]);
+    told_walked(rt, set.iter(yes(c.first), &mut lent[..n]))?;
+    show_signed(rt, &lent[..n])
 }
 
-fn walk_fragment(c: Call, line: &[u64], lent: &mut [u32]) {
+fn walk_fragment(rt: &impl Print, c: Call, line: &[u64], lent: &mut [u32]) -> io::Result<()> {
     let n = c.second as usize;
     if lent.len() < n {
-        return no_call();
+        return no_call(rt);
     }
     let set = fragment_set(c.third, c.fourth, line, SET_AND_ROOM);
-    told_walked(set.iter(yes(c.first), &mut lent[..n]));
-    show_words(&lent[..n]);
+    told_walked(rt, set.iter(yes(c.first), &mut lent[..n]))?;
+    show_words(rt, &lent[..n])
 }
 
-fn told_measured(m: Measured) {
+fn told_measured(rt: &impl Print, m: Measured) -> io::Result<()> {
     match m {
-        Measured::Refused(k) => return line(k as u64),
-        Measured::Bytes(n) => return pair(0, n as u64),
+        Measured::Refused(k) => return line(rt, k as u64),
+        Measured::Bytes(n) => return pair(rt, 0, n as u64),
     }
 }
 
 // A set made: base number ..
-fn make_sequence(base: u64, line: &[u64], list: &mut [i64]) {
+fn make_sequence(rt: &impl Print, base: u64, line: &[u64], list: &mut [i64]) -> io::Result<()> {
     let n = left(line, LIST);
     if list.len() < n {
-        return no_call();
+        return no_call(rt);
     }
     to_signed(line, &mut list[..n]);
     let made = SequenceNumberSet::from_base_and_set(signed(base), &list[..n]);
     let set = made.set;
-    told_sequence_set(made.refusal, 0, set);
+    told_sequence_set(rt, made.refusal, 0, set)
 }
 
-fn make_fragment(base: u64, line: &[u64], list: &mut [u32]) {
+fn make_fragment(rt: &impl Print, base: u64, line: &[u64], list: &mut [u32]) -> io::Result<()> {
     let n = left(line, LIST);
     if list.len() < n {
-        return no_call();
+        return no_call(rt);
     }
     to_words(line, &mut list[..n]);
     let made = FragmentNumberSet::from_base_and_set(low_word(base), &list[..n]);
     let set = made.set;
-    told_fragment_set(made.refusal, 0, set);
+    told_fragment_set(rt, made.refusal, 0, set)
 }
 
 // A set measured: set.
-fn measure(c: Call, line: &[u64]) {
+fn measure(rt: &impl Print, c: Call, line: &[u64]) -> io::Result<()> {
     if c.code == MEASURE_SEQUENCE_SET {
-        return told_measured(sequence_set(c.first, c.second, line, SET_ALONE).len_serialized());
+        return told_measured(
+            rt,
+            sequence_set(c.first, c.second, line, SET_ALONE).len_serialized(),
+        );
     }
-    told_measured(fragment_set(c.first, c.second, line, SET_ALONE).len_serialized());
+    told_measured(
+        rt,
+        fragment_set(c.first, c.second, line, SET_ALONE).len_serialized(),
+    )
 }
 
 // The calls on bytes, which are lent: 90 each to write, any to read.
-fn on_bytes(c: Call, line: &[u64]) {
+fn on_bytes(rt: &impl Print, c: Call, line: &[u64]) -> io::Result<()> {
     let mut lent = [90u8; 64];
     let code = c.code;
     match code {
         READ_SEQUENCE_NUMBER | READ_SEQUENCE_SET | READ_FRAGMENT_NUMBER | READ_FRAGMENT_SET => {
-            return read(c, line, &mut lent);
+            return read(rt, c, line, &mut lent);
         }
-        _ => return write(c, line, &mut lent),
+        _ => return write(rt, c, line, &mut lent),
     }
 }
 
 // The calls on sequence numbers, which are lent: 90 each to list, any to make a set of.
-fn on_sequence(c: Call, line: &[u64]) {
+fn on_sequence(rt: &impl Print, c: Call, line: &[u64]) -> io::Result<()> {
     let mut lent = [90i64; 300];
     if c.code == WALK_SEQUENCE_SET {
-        return walk_sequence(c, line, &mut lent);
+        return walk_sequence(rt, c, line, &mut lent);
     }
-    make_sequence(c.first, line, &mut lent);
+    make_sequence(rt, c.first, line, &mut lent)
 }
 
 // The calls on fragment numbers, the same.
-fn on_fragments(c: Call, line: &[u64]) {
+fn on_fragments(rt: &impl Print, c: Call, line: &[u64]) -> io::Result<()> {
     let mut lent = [90u32; 300];
     if c.code == WALK_FRAGMENT_SET {
-        return walk_fragment(c, line, &mut lent);
+        return walk_fragment(rt, c, line, &mut lent);
     }
-    make_fragment(c.first, line, &mut lent);
+    make_fragment(rt, c.first, line, &mut lent)
 }
 
-pub(crate) fn call(c: Call, line: &[u64]) {
+pub(crate) fn call(rt: &impl Print, c: Call, line: &[u64]) -> io::Result<()> {
     let code = c.code;
     match code {
-        WALK_SEQUENCE_SET | MAKE_SEQUENCE_SET => return on_sequence(c, line),
-        WALK_FRAGMENT_SET | MAKE_FRAGMENT_SET => return on_fragments(c, line),
-        MEASURE_SEQUENCE_SET | MEASURE_FRAGMENT_SET => return measure(c, line),
-        _ => return on_bytes(c, line),
+        WALK_SEQUENCE_SET | MAKE_SEQUENCE_SET => return on_sequence(rt, c, line),
+        WALK_FRAGMENT_SET | MAKE_FRAGMENT_SET => return on_fragments(rt, c, line),
+        MEASURE_SEQUENCE_SET | MEASURE_FRAGMENT_SET => return measure(rt, c, line),
+        _ => return on_bytes(rt, c, line),
     }
 }
