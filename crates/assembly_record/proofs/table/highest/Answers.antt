@@ -10,7 +10,6 @@ use Rattle.assembly_record.specs.State.{place_at}
 use Rattle.assembly_record.specs.Table.{highest_of}
 use Rattle.assembly_record.specs.Words.{places_of}
 use Rattle.assembly_record.proofs.table.highest.Goals as goal
-use Rattle.assembly_record.proofs.table.highest.Goals.{then-h-x, else-h-x}
 
 pub loop-i-preserved : goal.loop-i-preserved
 loop-i-preserved c =
@@ -18,7 +17,7 @@ loop-i-preserved c =
     let i = c.loop-i.i in
     let e = number_at w i (omega arith) in
     let t : highest_of (take (i + 1) (places_of w)) ≡ max (highest_of (take i (places_of w))) (place_at (places_of w) i).number = ap (λ (k : ℕ). highest_of (take k (places_of w))) (add-one i) ∙ highest_take (places_of w) i (omega (arith, length_places w)) in
-    (omega arith, elim c.if-h-x.branch [ then-h-x w ↦ omega (arith, e, t) | else-h-x w ↦ omega (arith, e, t) ])
+    (omega arith, grind (arith, e, t))
 
 pub returns : goal.returns
 returns c =
