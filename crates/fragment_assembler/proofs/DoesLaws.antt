@@ -1,5 +1,5 @@
 -- Laws of `TakesFragment` of `specs/Promise.antt`: what the code did, step by step on the words, is the call that is defined on the state. Assumes nothing.
-use Prim.Native.Nat.{ℕ, ◌+◌, ◌*◌, ◌-◌, ◌≤◌, ◌<◌}
+use Prim.Native.Nat.{ℕ, ◌+◌, ◌*◌, ◌≤◌, ◌<◌}
 use native.Mathlib.Omega.{arith}
 use mathlib.Core.Path.{◌≡◌, refl, sym, ap, subst, ◌∙◌}
 use mathlib.Core.Bool.{true, false}
@@ -15,7 +15,7 @@ use Rattle.fragment_assembler.proofs.CallRules.{fragment_ok}
 use Rattle.fragment_assembler.proofs.RefusalLaws.{Passed, passed}
 use Rattle.assembly_record.proofs.RulesLaws.{rests_sample, good_spare, good_became}
 use Rattle.assembly_record.proofs.TableLaws.{find_hit}
-use Rattle.assembly_record.proofs.WordsLaws.{head_same, length_places, state_became, same}
+use Rattle.assembly_record.proofs.WordsLaws.{head_same, length_places, state_became}
 use Rattle.fragment_assembler.specs.Call.{finish_work, fragment, run_work, Work, begin_work, accepted_fragment, fragment_reply, fragment_said, Fate, FragmentReply, opened_place}
 use Rattle.assembly_record.specs.Table.{find, has_number}
 use Rattle.assembly_record.specs.Rows.{Became, opened_row}
