@@ -1,9 +1,9 @@
 -- What a call of another number, and a cleaning, do to a block in reliable mode: they leave it. Assumes nothing.
-use Prim.Native.Nat.{ℕ, ◌+◌, ◌*◌, ◌-◌, ◌≤◌, ◌<◌}
+use Prim.Native.Nat.{ℕ, ◌+◌, ◌*◌, ◌≤◌, ◌<◌}
 use native.Mathlib.Omega.{arith}
 use mathlib.Core.Path.{◌≡◌, refl, sym, ap, subst, ◌∙◌}
 use mathlib.Core.Bool.{Bool, true}
-use mathlib.Core.Logic.{◌⊎◌, ⊎_elim}
+use mathlib.Core.Logic.{⊎_elim}
 use mathlib.Core.List.{List}
 use lib.ListN.{length, set, length-set}
 use lib.Seq.{get_or-set_other}
@@ -18,7 +18,7 @@ use Rattle.fragment_assembler.specs.Call.{drop_if_full, Ending, finish_work, Wor
 use Rattle.assembly_record.specs.Table.{victim, lower, find, highest_of}
 use Rattle.assembly_record.specs.Fragments.{is_whole}
 use Rattle.assembly_record.specs.Stale.{sweep}
-use Rattle.assembly_record.specs.Marks.{marked, all_below}
+use Rattle.assembly_record.specs.Marks.{marked}
 use Rattle.fragment_assembler.specs.Fragment.{Fragment, head_of, run_of}
 use Rattle.assembly_record.specs.Rules.{AssemblerRules}
 use Rattle.no_starvation.specs.Starve.{Stretch}
