@@ -173,3 +173,31 @@ left_four w t =
   where
     before : (x y : ℕ) → y ≡ x * 2 → 0 < y % 4294967296 → 0 < x % 4294967296
     before x y e h = omega arith
+
+-- the four steps of a turn
+module _ {A : Type 0} (g : ℕ → A) (from word : ℕ) (out₀ : List A) (place w : ℕ) (t : 0 < w * 16 % 4294967296) where
+  -- the word is walked so far
+  abbrev pub At : List A → ℕ → ℕ → ℕ → Type 0
+  At = Climbs (λ (k : ℕ). g (from + k)) from word out₀ place
+
+  pub climbs_one : (out : List A) (n i : ℕ) → At out n w i → (out' : List A) (n' : ℕ) → out' ≡ set out n (g i) → n' ≡ n + w / 2147483648
+      → At out' n' (w * 2 % 4294967296) (i + 1)
+  climbs_one out n i l out' n' p q = climbs_by g from word out₀ place out n w i l out' n' (w * 2 % 4294967296) (i + 1) p q refl refl (left_four w t).0
+
+  pub climbs_two : (out : List A) (n i : ℕ) → At out n (w * 2 % 4294967296) (i + 1) → (out' : List A) (n' : ℕ) → out' ≡ set out n (g (i + 1))
+      → n' ≡ n + w * 2 % 4294967296 / 2147483648 → At out' n' (w * 4 % 4294967296) (i + 2)
+  climbs_two out n i l out' n' p q =
+      climbs_by g from word out₀ place out n (w * 2 % 4294967296) (i + 1) l out' n' (w * 4 % 4294967296) (i + 2) p q
+      (shift_more (w * 2) (w * 4) (w * 2 % 4294967296) refl (omega arith)) (omega arith) (left_four w t).1
+
+  pub climbs_three : (out : List A) (n i : ℕ) → At out n (w * 4 % 4294967296) (i + 2) → (out' : List A) (n' : ℕ) → out' ≡ set out n (g (i + 2))
+      → n' ≡ n + w * 4 % 4294967296 / 2147483648 → At out' n' (w * 8 % 4294967296) (i + 3)
+  climbs_three out n i l out' n' p q =
+      climbs_by g from word out₀ place out n (w * 4 % 4294967296) (i + 2) l out' n' (w * 8 % 4294967296) (i + 3) p q
+      (shift_more (w * 4) (w * 8) (w * 4 % 4294967296) refl (omega arith)) (omega arith) (left_four w t).2
+
+  pub climbs_four : (out : List A) (n i : ℕ) → At out n (w * 8 % 4294967296) (i + 3) → (out' : List A) (n' : ℕ) → out' ≡ set out n (g (i + 3))
+      → n' ≡ n + w * 8 % 4294967296 / 2147483648 → At out' n' (w * 16 % 4294967296) (i + 4)
+  climbs_four out n i l out' n' p q =
+      climbs_by g from word out₀ place out n (w * 8 % 4294967296) (i + 3) l out' n' (w * 16 % 4294967296) (i + 4) p q
+      (shift_more (w * 8) (w * 16) (w * 8 % 4294967296) refl (omega arith)) (omega arith) (left_four w t).3

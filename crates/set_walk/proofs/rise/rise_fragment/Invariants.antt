@@ -1,0 +1,11 @@
+-- `set_walk::rise::rise_fragment` meets its contract: the members of the words below k are written, one after the other.
+-- Assumes nothing.
+use Prim.Native.Nat.{ℕ, ◌+◌, ◌*◌, ◌-◌, ◌<◌, min}
+use Rattle.set_walk.proofs.RisingLaws.{Rising}
+use Rattle.set_walk.proofs.rise.rise_fragment.Given as goal
+
+abbrev pub invariant-loop-k : goal.invariant-loop-k
+invariant-loop-k l = (32 * l.k < l.count + 32) × Rising (λ (i : ℕ). l.base + i) l.words l.count l.initial.out l.out l.n (min (32 * l.k) l.count)
+
+abbrev pub decreases-loop-k : goal.decreases-loop-k
+decreases-loop-k l = l.count - 32 * l.k
