@@ -15,7 +15,7 @@ use Rattle.number_set.specs.Walk.{walked_said, Walks}
 use Rattle.number_set.specs.declared.set.Measured.{Measured}
 use Rattle.number_set.specs.declared.set.Walked.{Walked}
 use Rattle.number_set.specs.declared.set.Measured.TheVariants as measured_as
-use Rattle.number_set.specs.declared.set.Walked.TheVariants as WalkedAs
+use Rattle.number_set.specs.declared.set.Walked.TheVariants as walked_as
 
 abbrev measured_back : Outcome ℕ → Measured
 measured_back (refused n) = measured_as.Refused n
@@ -29,12 +29,12 @@ pub measured_determined : (r r' : Measured) {x : Outcome ℕ} → measured_said 
 measured_determined = said_determined measured_said measured_back measured_back_said
 
 abbrev walked_back : Outcome ℕ → Walked
-walked_back (refused n) = WalkedAs.Refused n
-walked_back (done x) = WalkedAs.Listed x
+walked_back (refused n) = walked_as.Refused n
+walked_back (done x) = walked_as.Listed x
 
 walked_back_said : (r : Walked) → walked_back (walked_said r) ≡ r
-walked_back_said (WalkedAs.Refused n) = refl
-walked_back_said (WalkedAs.Listed x) = refl
+walked_back_said (walked_as.Refused n) = refl
+walked_back_said (walked_as.Listed x) = refl
 
 pub walked_determined : (r r' : Walked) {x : Outcome ℕ} → walked_said r ≡ x → walked_said r' ≡ x → r ≡ r'
 walked_determined = said_determined walked_said walked_back walked_back_said

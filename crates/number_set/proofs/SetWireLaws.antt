@@ -5,7 +5,7 @@ use mathlib.Core.Bool.{Bool, true, false, cond}
 use lib.Dec.{ltb}
 use mathlib.Core.List.{List}
 use native.Mathlib.Omega.{arith}
-use lib.ListN.{length, length-append, set}
+use lib.ListN.{length, length-append}
 use lib.Seq.{sets}
 use Rattle.outcome.specs.Outcome.{Outcome, refused, done, found, left}
 use Rattle.sequence_number.specs.Word.{word_at}

@@ -11,7 +11,7 @@ use sequence_number::number::natural;
 
 // The count of a set whose last member is so far from its base: of either width.
 fn spanned(away: u64) -> u32
-    ensures { result ≡ spannedS away }
+    ensures { result ≡ spanned_s away }
 {
     if 256 <= away {
         return 256;

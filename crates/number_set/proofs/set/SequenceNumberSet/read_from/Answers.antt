@@ -1,0 +1,41 @@
+-- `number_set::set::SequenceNumberSet::read_from` meets its contract: what the count said, with the base and the words, is a case of `read_set`.
+-- Assumes nothing.
+use mir.Facts.{to_z-of_z}
+use mir.Val.{of_z, to_z}
+use mir.Syntax.{w64}
+use mathlib.Core.Path.{◌∙◌}
+use Rattle.number_set.specs.SetWire.{sequence_set_read}
+use Rattle.set_words.proofs.SetWordsLaws.{bits_there}
+use Rattle.number_set.proofs.SetWireLaws.{set_refused, set_read}
+use Rattle.sequence_number.specs.Kind.{sequence_number}
+use native.Mathlib.Omega.{arith}
+use Rattle.number_set.proofs.set.SequenceNumberSet.read_from.Goals as goal
+
+pub overflow_add-n : goal.overflow_add-n
+overflow_add-n c =
+    let a = c.args in
+    let t = bits_there 8 a.o a.s.now _ _ c.read_count.ensures c.in-Bits.is in
+    record { fits = omega arith }
+
+pub sequence_at-base-requires : goal.sequence_at-base-requires
+sequence_at-base-requires c =
+    let a = c.args in
+    let t = bits_there 8 a.o a.s.now _ _ c.read_count.ensures c.in-Bits.is in
+    omega arith
+
+pub read_words-words-requires : goal.read_words-words-requires
+read_words-words-requires c =
+    let a = c.args in
+    let t = bits_there 8 a.o a.s.now _ _ c.read_count.ensures c.in-Bits.is in
+    record { n_bound = omega arith; n_in_bounds = omega arith }
+
+pub returns-in-Refused : goal.returns-in-Refused
+returns-in-Refused c =
+    let a = c.args in
+    set_refused sequence_number a.o a.s.now sequence_set_read _ c.in-Refused.is c.read_count.ensures
+
+pub returns-in-Bits : goal.returns-in-Bits
+returns-in-Bits c =
+    let a = c.args in
+    set_read sequence_number a.o a.s.now sequence_set_read _ c.in-Bits.is c.read_count.ensures (to_z w64 (of_z w64 c.sequence_at-base.result)) _
+    (to_z-of_z {w = w64} (record { sfits = c.sequence_at-base.type_inv }) ∙ c.sequence_at-base.ensures) c.read_words-words.ensures
