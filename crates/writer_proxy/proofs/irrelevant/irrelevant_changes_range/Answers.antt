@@ -10,6 +10,14 @@ use Rattle.writer_proxy.proofs.CallsInPlace.{range_refused, range_keeps, range_o
 use Rattle.writer_proxy.proofs.irrelevant.irrelevant_changes_range.Goals as goal
 use Rattle.writer_proxy.proofs.irrelevant.irrelevant_changes_range.Goals.{After-natural-b}
 
+pub returns-then-until-from : goal.returns-then-until-from
+returns-then-until-from c =
+    let a = c.args in
+    record {
+      proxy_answers = range_refused a.from a.until c.ranges.until a.t.now c.requires (test_back a.until a.from c.ranges.until.sfits c.ranges.from.sfits c.if-until-from.true);
+      good_proxy = c.requires;
+    }
+
 -- the two ends as the core takes them
 ends : (c : After-natural-b) →
     (lt_z c.args.until c.args.from ≡ false) × (c.natural-a.result ≡ nat_of c.args.from) × (c.natural-b.result ≡ nat_of c.args.until)
@@ -18,14 +26,6 @@ ends c = (
   nat_passed c.args.from _ c.ranges.from c.natural-a.ensures,
   nat_passed c.args.until _ c.ranges.until c.natural-b.ensures,
 )
-
-pub returns-then-until-from : goal.returns-then-until-from
-returns-then-until-from c =
-    let a = c.args in
-    record {
-      proxy_answers = range_refused a.from a.until c.ranges.until a.t.now c.requires (test_back a.until a.from c.ranges.until.sfits c.ranges.from.sfits c.if-until-from.true);
-      good_proxy = c.requires;
-    }
 
 pub skip_to-requires : goal.skip_to-requires
 skip_to-requires c =
