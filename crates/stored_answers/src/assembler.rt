@@ -76,9 +76,9 @@ fn start_fresh(rt: &impl Print, c: Call) -> io::Result<()> {
 }
 
 // A refusal; or 0 and 0; or 0, 1 and the returned number, its place and length; or 0, 2 and the dropped number.
-fn told_answer(rt: &impl Print, r: Answer) -> io::Result<()> {
+fn told_answer(rt: &impl Print, r: &Answer) -> io::Result<()> {
     match r {
-        Answer::Refused(k) => return refusal(rt, k),
+        Answer::Refused(k) => return refusal(rt, *k),
         Answer::Kept => return two(rt, 0, 0),
         Answer::Returned {
             number,
@@ -86,13 +86,13 @@ fn told_answer(rt: &impl Print, r: Answer) -> io::Result<()> {
             length,
         } => {
             two(rt, 0, 1)?;
-            next(rt, number)?;
-            next(rt, place as u64)?;
-            next(rt, length as u64)
+            next(rt, *number)?;
+            next(rt, *place as u64)?;
+            next(rt, *length as u64)
         }
         Answer::Dropped(number) => {
             two(rt, 0, 2)?;
-            next(rt, number)
+            next(rt, *number)
         }
     }
 }
@@ -116,7 +116,7 @@ fn show_returned(rt: &impl Print, t: &[u64], area: &[u8], r: Answer) -> io::Resu
 fn told(rt: &impl Print, t: &[u64], area: &[u8], r: Answer) -> io::Result<()>
     requires { GoodAssembler t.now }
 {
-    told_answer(rt, r)?;
+    told_answer(rt, &r)?;
     next(rt, in_assembly(t) as u64)?;
     next(rt, words_digest(t))?;
     next(rt, bytes_digest(area))?;

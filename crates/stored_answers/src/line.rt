@@ -9,7 +9,7 @@ pub(crate) struct Line {
 }
 
 // A line's code, and the words after it as far as calls name them; 0 for one that is not there.
-#[derive(Drop)]
+#[derive(Clone, Copy)]
 pub(crate) struct Call {
     pub(crate) code: u64,
     pub(crate) first: u64,
