@@ -22,7 +22,6 @@ use Rattle.writer_proxy.specs.Calls.{received, irrelevant_range}
 use Rattle.writer_proxy.specs.Missing.{missing_numbers, missing_listed}
 use Rattle.outcome.specs.Answers.{listing_said}
 use Rattle.outcome.specs.declared.Listing.{Listing}
-use Rattle.outcome.specs.declared.Listing.TheVariants as Listing
 use Rattle.line_text.specs.Decimal.{spaced_number, started, line_of}
 use Rattle.replay_lines.specs.Frame.{parsed_said}
 use Rattle.replay_lines.specs.declared.frame.Frame.{Frame}
