@@ -11,7 +11,7 @@ use fragment_assembler::clean::Cleaned;
 use fragment_assembler::fragment::Answer;
 use outcome::{Listing, SetUp};
 
-pub extern "C" fn drucenal_assembler_set_up(
+pub fn drucenal_assembler_set_up(
     words: &mut [u64],
     fragment_size: u16,
     reliable: bool,
@@ -25,7 +25,7 @@ pub extern "C" fn drucenal_assembler_set_up(
     }
 }
 
-pub extern "C" fn drucenal_assembler_new_datafrag(
+pub fn drucenal_assembler_new_datafrag(
     words: &mut [u64],
     area: &mut [u8],
     time: u64,
@@ -83,7 +83,7 @@ pub extern "C" fn drucenal_assembler_new_datafrag(
 }
 
 // The length of the part of the area that is shown; start: where it begins, 0 where it would pass the area's end.
-pub extern "C" fn drucenal_assembler_view(
+pub fn drucenal_assembler_view(
     words: &[u64],
     area: &[u8],
     place: usize,
@@ -97,7 +97,7 @@ pub extern "C" fn drucenal_assembler_view(
     fragment_assembler::view::view(words, area, place, length).len()
 }
 
-pub extern "C" fn drucenal_assembler_garbage_collect_before(
+pub fn drucenal_assembler_garbage_collect_before(
     words: &mut [u64],
     expire_before: u64,
     out: &mut [i64],
@@ -115,7 +115,7 @@ pub extern "C" fn drucenal_assembler_garbage_collect_before(
     }
 }
 
-pub extern "C" fn drucenal_assembler_missing_frags_for(
+pub fn drucenal_assembler_missing_frags_for(
     words: &[u64],
     number: i64,
     out: &mut [u32],
@@ -133,14 +133,14 @@ pub extern "C" fn drucenal_assembler_missing_frags_for(
     }
 }
 
-pub extern "C" fn drucenal_assembler_is_partially_received(words: &[u64], number: i64) -> bool
+pub fn drucenal_assembler_is_partially_received(words: &[u64], number: i64) -> bool
     requires { GoodAssembler words.now }
     ensures { result ≡ is_partially_received (assembler_of words.now).places (number_of number) }
 {
     fragment_assembler::query::is_partially_received(words, number)
 }
 
-pub extern "C" fn drucenal_assembler_in_assembly(words: &[u64]) -> usize
+pub fn drucenal_assembler_in_assembly(words: &[u64]) -> usize
     requires { GoodAssembler words.now }
     ensures { result ≡ in_assembly (assembler_of words.now).places }
 {

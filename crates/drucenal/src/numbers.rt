@@ -17,7 +17,7 @@ pub(crate) fn order_of(big: bool) -> ByteOrder
     ByteOrder::Little
 }
 
-pub extern "C" fn drucenal_read_sequence_number(big: bool, bytes: &[u8], number: &mut i64) -> u32
+pub fn drucenal_read_sequence_number(big: bool, bytes: &[u8], number: &mut i64) -> u32
     ensures { Gives (read_number sequence_number (order_of big) bytes.now) number.old result number.new }
 {
     match sequence_number::wire::read_sequence_number(order_of(big), bytes) {
@@ -29,7 +29,7 @@ pub extern "C" fn drucenal_read_sequence_number(big: bool, bytes: &[u8], number:
     }
 }
 
-pub extern "C" fn drucenal_write_sequence_number(big: bool, number: i64, out: &mut [u8]) -> u32
+pub fn drucenal_write_sequence_number(big: bool, number: i64, out: &mut [u8]) -> u32
     ensures { Lends (write_number sequence_number (length out.old)) (sequence_number.number_bytes (order_of big) number) out.old result out.new }
 {
     match sequence_number::wire::write_sequence_number(order_of(big), number, out) {
@@ -38,7 +38,7 @@ pub extern "C" fn drucenal_write_sequence_number(big: bool, number: i64, out: &m
     }
 }
 
-pub extern "C" fn drucenal_read_fragment_number(big: bool, bytes: &[u8], number: &mut u32) -> u32
+pub fn drucenal_read_fragment_number(big: bool, bytes: &[u8], number: &mut u32) -> u32
     ensures { Gives (read_number fragment_number (order_of big) bytes.now) number.old result number.new }
 {
     match sequence_number::wire::read_fragment_number(order_of(big), bytes) {
@@ -50,7 +50,7 @@ pub extern "C" fn drucenal_read_fragment_number(big: bool, bytes: &[u8], number:
     }
 }
 
-pub extern "C" fn drucenal_write_fragment_number(big: bool, number: u32, out: &mut [u8]) -> u32
+pub fn drucenal_write_fragment_number(big: bool, number: u32, out: &mut [u8]) -> u32
     ensures { Lends (write_number fragment_number (length out.old)) (fragment_number.number_bytes (order_of big) number) out.old result out.new }
 {
     match sequence_number::wire::write_fragment_number(order_of(big), number, out) {

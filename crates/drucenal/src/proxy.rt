@@ -16,7 +16,7 @@ use outcome::{Listing, SetUp};
 use proxy_steps::Report;
 use writer_proxy::query::{LastReceived, Status};
 
-pub extern "C" fn drucenal_proxy_set_up(words: &mut [u64]) -> u32
+pub fn drucenal_proxy_set_up(words: &mut [u64]) -> u32
     ensures value { (result ≡ refusal (set_up_proxy words.old).answer) × (words.new ≡ (set_up_proxy words.old).words) }
     ensures good_proxy { proxy_size ≤ length words.old → GoodProxy (take proxy_size words.new) }
 {
@@ -45,7 +45,7 @@ fn tell(report: Report, old: &mut u64, new: &mut u64) -> u32
     }
 }
 
-pub extern "C" fn drucenal_proxy_received_changes_add(
+pub fn drucenal_proxy_received_changes_add(
     words: &mut [u64],
     number: i64,
     time: u64,
@@ -59,7 +59,7 @@ pub extern "C" fn drucenal_proxy_received_changes_add(
     tell(r, old, new)
 }
 
-pub extern "C" fn drucenal_proxy_set_irrelevant_change(
+pub fn drucenal_proxy_set_irrelevant_change(
     words: &mut [u64],
     number: i64,
     old: &mut u64,
@@ -72,7 +72,7 @@ pub extern "C" fn drucenal_proxy_set_irrelevant_change(
     tell(r, old, new)
 }
 
-pub extern "C" fn drucenal_proxy_irrelevant_changes_range(
+pub fn drucenal_proxy_irrelevant_changes_range(
     words: &mut [u64],
     from: i64,
     until_before: i64,
@@ -86,7 +86,7 @@ pub extern "C" fn drucenal_proxy_irrelevant_changes_range(
     tell(r, old, new)
 }
 
-pub extern "C" fn drucenal_proxy_irrelevant_changes_up_to(
+pub fn drucenal_proxy_irrelevant_changes_up_to(
     words: &mut [u64],
     smallest: i64,
     old: &mut u64,
@@ -99,14 +99,14 @@ pub extern "C" fn drucenal_proxy_irrelevant_changes_up_to(
     tell(r, old, new)
 }
 
-pub extern "C" fn drucenal_proxy_all_ackable_before(words: &[u64]) -> u64
+pub fn drucenal_proxy_all_ackable_before(words: &[u64]) -> u64
     requires { GoodProxy words.now }
     ensures { result ≡ (proxy_of words.now).base }
 {
     writer_proxy::query::all_ackable_before(words)
 }
 
-pub extern "C" fn drucenal_proxy_should_ignore_change(words: &[u64], number: i64) -> bool
+pub fn drucenal_proxy_should_ignore_change(words: &[u64], number: i64) -> bool
     requires { GoodProxy words.now }
     ensures { result ≡ ignored number (proxy_of words.now) }
 {
@@ -114,7 +114,7 @@ pub extern "C" fn drucenal_proxy_should_ignore_change(words: &[u64], number: i64
 }
 
 // 0 untracked, 1 not available, 2 received; the time is written for 2 alone.
-pub extern "C" fn drucenal_proxy_change_status(words: &[u64], number: i64, time: &mut u64) -> u32
+pub fn drucenal_proxy_change_status(words: &[u64], number: i64, time: &mut u64) -> u32
     requires { GoodProxy words.now }
     ensures { (result ≡ status_number (status_of number (proxy_of words.now))) × (time.new ≡ status_time (status_of number (proxy_of words.now)) time.old) }
 {
@@ -129,7 +129,7 @@ pub extern "C" fn drucenal_proxy_change_status(words: &[u64], number: i64, time:
 }
 
 // The number, 0 for none; the time is written where there is one.
-pub extern "C" fn drucenal_proxy_last_received(words: &[u64], time: &mut u64) -> u64
+pub fn drucenal_proxy_last_received(words: &[u64], time: &mut u64) -> u64
     requires { GoodProxy words.now }
     ensures { (result ≡ last_number (last_received (proxy_of words.now))) × (time.new ≡ last_time (last_received (proxy_of words.now)) time.old) }
 {
@@ -142,7 +142,7 @@ pub extern "C" fn drucenal_proxy_last_received(words: &[u64], time: &mut u64) ->
     }
 }
 
-pub extern "C" fn drucenal_proxy_missing_seqnums(
+pub fn drucenal_proxy_missing_seqnums(
     words: &[u64],
     start: i64,
     end: i64,
@@ -162,7 +162,7 @@ pub extern "C" fn drucenal_proxy_missing_seqnums(
 }
 
 // The count that is handed out; the caller's own is moved on where it lies.
-pub extern "C" fn drucenal_next_ack_nack_sequence_number(count: &mut i32) -> i32
+pub fn drucenal_next_ack_nack_sequence_number(count: &mut i32) -> i32
     ensures { (result ≡ count.old) × (count.new ≡ next_count count.old) }
 {
     ack_nack_counter::next_ack_nack_count(count)

@@ -11,7 +11,7 @@ use crate::numbers::order_of;
 use number_set::set::{FragmentNumberSet, Measured, SequenceNumberSet, Walked};
 use sequence_number::wire::Written;
 
-pub extern "C" fn drucenal_read_sequence_number_set(
+pub fn drucenal_read_sequence_number_set(
     big: bool,
     bytes: &[u8],
     base: &mut i64,
@@ -36,7 +36,7 @@ pub extern "C" fn drucenal_read_sequence_number_set(
     0
 }
 
-pub extern "C" fn drucenal_write_sequence_number_set(
+pub fn drucenal_write_sequence_number_set(
     big: bool,
     base: i64,
     count: u32,
@@ -61,7 +61,7 @@ pub extern "C" fn drucenal_write_sequence_number_set(
     }
 }
 
-pub extern "C" fn drucenal_make_sequence_number_set(
+pub fn drucenal_make_sequence_number_set(
     base: i64,
     list: &[i64],
     low: &mut i64,
@@ -84,7 +84,7 @@ pub extern "C" fn drucenal_make_sequence_number_set(
     0
 }
 
-pub extern "C" fn drucenal_walk_sequence_number_set(
+pub fn drucenal_walk_sequence_number_set(
     rising: bool,
     base: i64,
     count: u32,
@@ -109,7 +109,7 @@ pub extern "C" fn drucenal_walk_sequence_number_set(
     }
 }
 
-pub extern "C" fn drucenal_measure_sequence_number_set(count: u32, length: &mut usize) -> u32
+pub fn drucenal_measure_sequence_number_set(count: u32, length: &mut usize) -> u32
     ensures { Gives (measure_set 8 count) length.old result length.new }
 {
     let set = SequenceNumberSet {
@@ -126,7 +126,7 @@ pub extern "C" fn drucenal_measure_sequence_number_set(count: u32, length: &mut 
     }
 }
 
-pub extern "C" fn drucenal_read_fragment_number_set(
+pub fn drucenal_read_fragment_number_set(
     big: bool,
     bytes: &[u8],
     base: &mut u32,
@@ -151,7 +151,7 @@ pub extern "C" fn drucenal_read_fragment_number_set(
     0
 }
 
-pub extern "C" fn drucenal_write_fragment_number_set(
+pub fn drucenal_write_fragment_number_set(
     big: bool,
     base: u32,
     count: u32,
@@ -176,7 +176,7 @@ pub extern "C" fn drucenal_write_fragment_number_set(
     }
 }
 
-pub extern "C" fn drucenal_make_fragment_number_set(
+pub fn drucenal_make_fragment_number_set(
     base: u32,
     list: &[u32],
     low: &mut u32,
@@ -199,7 +199,7 @@ pub extern "C" fn drucenal_make_fragment_number_set(
     0
 }
 
-pub extern "C" fn drucenal_walk_fragment_number_set(
+pub fn drucenal_walk_fragment_number_set(
     rising: bool,
     base: u32,
     count: u32,
@@ -224,7 +224,7 @@ pub extern "C" fn drucenal_walk_fragment_number_set(
     }
 }
 
-pub extern "C" fn drucenal_measure_fragment_number_set(count: u32, length: &mut usize) -> u32
+pub fn drucenal_measure_fragment_number_set(count: u32, length: &mut usize) -> u32
     ensures { Gives (measure_set 4 count) length.old result length.new }
 {
     let set = FragmentNumberSet {
