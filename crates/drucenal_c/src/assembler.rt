@@ -38,7 +38,21 @@ pub extern "C" fn drucenal_assembler_new_datafrag(
     requires { GoodAssembler words.old }
     ensures { TakesFragmentOut words.old area.old (fragment_with time (number_of number) fragment_size data_size start count payload.now) (happened what.old of.old place.old length.old) result (happened what.new of.new place.new length.new) words.new area.new }
 {
-    drucenal::assembler::drucenal_assembler_new_datafrag(words, area, time, number, fragment_size, data_size, start, count, payload, what, of, place, length)
+    drucenal::assembler::drucenal_assembler_new_datafrag(
+        words,
+        area,
+        time,
+        number,
+        fragment_size,
+        data_size,
+        start,
+        count,
+        payload,
+        what,
+        of,
+        place,
+        length,
+    )
 }
 
 // The length of the part of the area that is shown; start: where it begins, 0 where it would pass the area's end.
@@ -66,7 +80,12 @@ pub extern "C" fn drucenal_assembler_garbage_collect_before(
     requires { GoodAssembler words.old }
     ensures { CleansAssemblerOut words.old expire_before out.old listed.old result listed.new words.new out.new }
 {
-    drucenal::assembler::drucenal_assembler_garbage_collect_before(words, expire_before, out, listed)
+    drucenal::assembler::drucenal_assembler_garbage_collect_before(
+        words,
+        expire_before,
+        out,
+        listed,
+    )
 }
 
 #[unsafe(no_mangle)]
