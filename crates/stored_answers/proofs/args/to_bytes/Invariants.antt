@@ -1,5 +1,5 @@
 -- The loop of `stored_answers::args::to_bytes`. Assumes nothing.
-use Rattle.std.proofs.Common.{◌≡◌, ◌-◌, ◌<◌, ◌≤◌, length}
+use Rattle.std.proofs.Common.{◌≡◌, ◌-◌, ◌≤◌, length}
 use Rattle.stored_answers.proofs.args.to_bytes.Given as goal
 
 abbrev pub invariant-loop-i : goal.invariant-loop-i

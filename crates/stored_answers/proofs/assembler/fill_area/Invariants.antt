@@ -1,5 +1,5 @@
 -- The loop of `stored_answers::assembler::fill_area`. Assumes nothing.
-use Rattle.std.proofs.Common.{◌≡◌, ◌-◌, ◌<◌, ◌≤◌, length}
+use Rattle.std.proofs.Common.{◌≡◌, ◌-◌, ◌≤◌, length}
 use Rattle.stored_answers.proofs.assembler.fill_area.Given as goal
 
 abbrev pub invariant-loop-i : goal.invariant-loop-i

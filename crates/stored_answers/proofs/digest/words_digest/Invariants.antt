@@ -1,5 +1,5 @@
 -- The loop of `stored_answers::digest::words_digest`. Assumes nothing.
-use Rattle.std.proofs.Common.{◌≡◌, ◌-◌, ◌<◌, ◌≤◌, length}
+use Rattle.std.proofs.Common.{◌-◌, ◌≤◌, length}
 use Rattle.stored_answers.proofs.digest.words_digest.Given as goal
 
 abbrev pub invariant-loop-i : goal.invariant-loop-i

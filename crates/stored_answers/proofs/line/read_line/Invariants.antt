@@ -1,5 +1,5 @@
 -- The loop of `stored_answers::line::read_line`. Assumes nothing.
-use Rattle.std.proofs.Common.{◌≡◌, ◌-◌, ◌<◌, ◌≤◌, length}
+use Rattle.std.proofs.Common.{◌≡◌, ◌-◌, ◌≤◌, length}
 use Rattle.stored_answers.proofs.line.read_line.Given as goal
 
 abbrev pub invariant-loop-i : goal.invariant-loop-i

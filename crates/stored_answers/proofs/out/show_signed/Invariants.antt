@@ -1,5 +1,5 @@
 -- The loop of `stored_answers::out::show_signed`. Assumes nothing.
-use Rattle.std.proofs.Common.{◌≡◌, ◌-◌, ◌<◌, ◌≤◌, length}
+use Rattle.std.proofs.Common.{◌-◌, ◌≤◌, length}
 use Rattle.stored_answers.proofs.out.show_signed.Given as goal
 
 abbrev pub invariant-loop-i : goal.invariant-loop-i
