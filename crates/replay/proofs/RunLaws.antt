@@ -1,6 +1,4 @@
 -- Laws of `specs/Run.antt`: bytes after bytes, and the end of the input after them. Assumes nothing.
-use Rattle.std.specs.Prelude.{Ok, Err, OnOk, OnErr}
-use Rattle.std.specs.declared.result.Result.{Result}
 use Prim.Native.Nat.{ℕ}
 use native.Mathlib.Omega.{arith}
 use mathlib.Core.Path.{◌≡◌, refl, sym, ap, ◌∙◌, subst}
@@ -15,7 +13,7 @@ use Rattle.proxy_record.proofs.RulesLaws.{ok_fresh, good_of}
 use Rattle.writer_proxy.specs.SetUp.{set_up_proxy}
 use Rattle.replay_lines.specs.Feed.{Feeding, feeding, fed_through, said_through, lacking, FedWith}
 use Rattle.replay_lines.proofs.FeedLaws.{fed_append}
-use Rattle.replay.specs.Run.{FedFront, FedSome, RanToEnd, WithSome}
+use Rattle.replay.specs.Run.{FedFront, FedSome, RanToEnd}
 
 pub fed_more : (r s t : Feeding) → FedSome r s → FedSome s t → FedSome r t
 fed_more r s t a b = (a.0 ++ b.0, b.1 ∙ ap (fed_through b.0) a.1 ∙ sym (fed_append a.0 b.0 r))
@@ -46,27 +44,3 @@ ran_to_end r s wrote words list held out out' a w = record {
   fed_is = w.fed_is ∙ ap (λ (u : Feeding). fed_through (lacking u) u) a.1;
   out_is = w.out_is ∙ ap (λ (u : Feeding). over (said_through (lacking u) u) out) a.1;
 }
-
--- what is lent after the line feed that the last line lacks
-pub closed_some : (r s t : Feeding) → FedSome r s → t ≡ fed_through (lacking s) s → FedSome r t
-closed_some r s t a e = fed_more r s t a (lacking s, e)
-
-pub some_fresh : (w : List ℕ) (list₀ : List ℤ) (held₀ words : List ℕ) (list : List ℤ) (held : List ℕ) → w ≡ proxy_words fresh_proxy
-    → WithSome words list held (FedSome (feeding w list₀ held₀ 0)) → WithSome words list held (FedSome (feeding (proxy_words fresh_proxy) list₀ held₀ 0))
-some_fresh w list₀ held₀ words list held e = subst (λ (v : List ℕ). WithSome words list held (FedSome (feeding v list₀ held₀ 0))) e
-
--- what holds anyway holds on either answer
-pub on_ok : {T E P : Type 0} (r : Result T E) → P → OnOk r P
-on_ok (Ok x) p = p
-on_ok (Err e) p = tt
-
-pub on_err : {T E P : Type 0} (r : Result T E) → P → OnErr r P
-on_err (Ok x) p = tt
-on_err (Err e) p = p
-
-the_some : (words : List ℕ) (list : List ℤ) (held : List ℕ) (P : Feeding → Type 0) (count : ℕ) → P (feeding words list held count) → WithSome words list held P
-the_some words list held P count p = (count, p)
-
--- what an error leaves, with so many bytes held
-pub err_with : {T E : Type 0} (r : Result T E) (words : List ℕ) (list : List ℤ) (held : List ℕ) (P : Feeding → Type 0) (count : ℕ) → P (feeding words list held count) → OnErr r (WithSome words list held P)
-err_with r words list held P count p = on_err r (the_some words list held P count p)

@@ -11,10 +11,6 @@ FedFront input r r' = (n : ℕ) × (r' ≡ fed_through (take n input) r)
 abbrev pub FedSome : Feeding → Feeding → Type 0
 FedSome r r' = (bytes : List ℕ) × (r' ≡ fed_through bytes r)
 
--- what is lent is so, however many bytes are held of a line: an error does not say how many
-abbrev pub WithSome : List ℕ → List ℤ → List ℕ → (Feeding → Type 0) → Type 0
-WithSome words list held P = (count : ℕ) × P (feeding words list held count)
-
 -- some input was fed, and then the line feed that its last line may lack: what is lent after it, and what was said of that line feed, over what stood in the buffer
 pub record RanToEnd (r : Feeding) (words : List ℕ) (list : List ℤ) (held out : List ℕ) : Type 0 where
   pub input : List ℕ

@@ -2,19 +2,18 @@
 // Input and lines may have any length. The work is that of crate `replay_lines`; here it is fed and what it says is written.
 #![tactic(auto)]
 
-ghost use Rattle.std.specs.Prelude.{◌≡◌, ◌≤◌, length, IfOk, OnOk, OnErr};
+ghost use Rattle.std.specs.Prelude.{◌≡◌, ◌≤◌, length};
 ghost use Rattle.outcome.specs.Lent.{over};
 ghost use Rattle.proxy_record.specs.State.{fresh_proxy};
 ghost use Rattle.proxy_record.specs.Words.{proxy_words};
 ghost use Rattle.proxy_record.specs.Rules.{GoodProxy};
 ghost use Rattle.replay_lines.specs.Feed.{piece_most, feeding, fed_through, said_through};
-ghost use Rattle.replay.specs.Run.{FedFront, FedSome, RanToEnd, WithSome};
+ghost use Rattle.replay.specs.Run.{FedFront, FedSome, RanToEnd};
 
 use line_text::hold::front;
 use proxy_record::layout::PROXY_WORDS;
 use replay_lines::answer::ROOM;
 use replay_lines::feed::{HELD, PIECE, SAID, close, feed};
-use std::io;
 use std::io::Read;
 use writer_proxy::set_up::set_up;
 
@@ -32,6 +31,24 @@ fn said_buffer() -> [u8; SAID]
     [0; SAID]
 }
 
+// All of the bytes to standard output; a write that fails is passed over.
+fn write(rt: &impl Print, bytes: &[u8]) {
+    match rt.write_all(bytes) {
+        Ok(()) => {}
+        Err(_) => {}
+    }
+}
+
+// How many bytes a read gave: none at the end of the input, and none where the read fails, which counts as the end.
+fn read(reader: &mut impl Read, input: &mut [u8; PIECE]) -> usize
+    ensures { result ≤ length input.new }
+{
+    match reader.read(input) {
+        Ok(n) => n,
+        Err(_) => 0,
+    }
+}
+
 // What a read gave, answered, all of it: how many bytes are held of the line that it ends in.
 fn replay_piece(
     rt: &impl Print,
@@ -41,16 +58,15 @@ fn replay_piece(
     count: usize,
     piece: &[u8],
     out: &mut [u8; SAID],
-) -> io::Result<usize>
+) -> usize
     requires { GoodProxy words.old × (length piece.now ≤ piece_most) }
-    ensures result_after { IfOk result (λ n. feeding words.new list.new held.new n ≡ fed_through piece.now (feeding words.old list.old held.old count)) }
-    ensures failed { OnErr result (WithSome words.new list.new held.new (λ r. r ≡ fed_through piece.now (feeding words.old list.old held.old count))) }
+    ensures result_after { feeding words.new list.new held.new result ≡ fed_through piece.now (feeding words.old list.old held.old count) }
     ensures out_after { out.new ≡ over (said_through piece.now (feeding words.old list.old held.old count)) out.old }
     ensures good_proxy { GoodProxy words.new }
 {
     let fed = feed(words, list, held, count, piece, out);
-    rt.write_all(front(out, fed.wrote))?;
-    Ok(fed.count)
+    write(rt, front(out, fed.wrote));
+    fed.count
 }
 
 // A read, answered.
@@ -63,22 +79,21 @@ fn replay_some(
     count: usize,
     input: &mut [u8; PIECE],
     out: &mut [u8; SAID],
-) -> io::Result<Turn>
+) -> Turn
     requires { GoodProxy words.old }
-    ensures fed_front { IfOk result (λ t. FedFront input.new (feeding words.old list.old held.old count) (feeding words.new list.new held.new t.count)) }
-    ensures failed { OnErr result (WithSome words.new list.new held.new (FedFront input.new (feeding words.old list.old held.old count))) }
+    ensures fed_front { FedFront input.new (feeding words.old list.old held.old count) (feeding words.new list.new held.new result.count) }
     ensures good_proxy { GoodProxy words.new }
 {
-    let end = reader.read(input)?;
+    let end = read(reader, input);
     if end == 0 {
-        return Ok(Turn { over: true, count });
+        return Turn { over: true, count };
     }
     let piece = front(input, end);
-    let n = replay_piece(rt, words, list, held, count, piece, out)?;
-    Ok(Turn {
+    let n = replay_piece(rt, words, list, held, count, piece, out);
+    Turn {
         over: false,
         count: n,
-    })
+    }
 }
 
 // All input: how many bytes are held of a last line. A proved loop has to end, and nothing says that the input does: no run uses its turns up.
@@ -90,23 +105,22 @@ fn replay_input(
     held: &mut [u8; HELD],
     input: &mut [u8; PIECE],
     out: &mut [u8; SAID],
-) -> io::Result<usize>
+) -> usize
     requires { GoodProxy words.old }
-    ensures fed_some { IfOk result (λ n. FedSome (feeding words.old list.old held.old 0) (feeding words.new list.new held.new n)) }
-    ensures failed { OnErr result (WithSome words.new list.new held.new (FedSome (feeding words.old list.old held.old 0))) }
+    ensures fed_some { FedSome (feeding words.old list.old held.old 0) (feeding words.new list.new held.new result) }
     ensures good_proxy { GoodProxy words.new }
 {
     let mut n = 0;
     let mut turns = u64::MAX;
     while turns > 0 {
-        let turn = replay_some(reader, rt, words, list, held, n, input, out)?;
+        let turn = replay_some(reader, rt, words, list, held, n, input, out);
         n = turn.count;
         if turn.over {
-            return Ok(n);
+            return n;
         }
         turns -= 1;
     }
-    Ok(n)
+    n
 }
 
 // All input, and a last line that lacks its line feed.
@@ -118,15 +132,13 @@ fn replay_all(
     held: &mut [u8; HELD],
     input: &mut [u8; PIECE],
     out: &mut [u8; SAID],
-) -> io::Result<()>
+)
     requires { GoodProxy words.old }
-    ensures ran { OnOk result (RanToEnd (feeding words.old list.old held.old 0) words.new list.new held.new out.new) }
-    ensures failed { OnErr result (WithSome words.new list.new held.new (FedSome (feeding words.old list.old held.old 0))) }
-    ensures good_proxy { GoodProxy words.new }
+    ensures { RanToEnd (feeding words.old list.old held.old 0) words.new list.new held.new out.new }
 {
-    let n = replay_input(reader, rt, words, list, held, input, out)?;
+    let n = replay_input(reader, rt, words, list, held, input, out);
     let wrote = close(words, list, held, n, out);
-    rt.write_all(front(out, wrote))
+    write(rt, front(out, wrote));
 }
 
 // The same from a fresh proxy on.
@@ -138,16 +150,14 @@ fn replay(
     held: &mut [u8; HELD],
     input: &mut [u8; PIECE],
     out: &mut [u8; SAID],
-) -> io::Result<()>
-    ensures ran { OnOk result (RanToEnd (feeding (proxy_words fresh_proxy) list.old held.old 0) words.new list.new held.new out.new) }
-    ensures failed { OnErr result (WithSome words.new list.new held.new (FedSome (feeding (proxy_words fresh_proxy) list.old held.old 0))) }
-    ensures good_proxy { GoodProxy words.new }
+)
+    ensures { RanToEnd (feeding (proxy_words fresh_proxy) list.old held.old 0) words.new list.new held.new out.new }
 {
     set_up(words);
-    replay_all(reader, rt, words, list, held, input, out)
+    replay_all(reader, rt, words, list, held, input, out);
 }
 
-fn main(rt: HostRuntime) -> io::Result<()> {
+fn main(rt: HostRuntime) {
     let mut words = [0u64; PROXY_WORDS];
     let mut list = [0i64; ROOM];
     let mut held = [0u8; HELD];
@@ -161,5 +171,5 @@ fn main(rt: HostRuntime) -> io::Result<()> {
         &mut held,
         &mut input,
         &mut out,
-    )
+    );
 }

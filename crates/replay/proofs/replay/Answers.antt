@@ -1,18 +1,12 @@
 -- `replay::replay` meets its contract: set-up makes the words a fresh record. Assumes nothing.
 use Rattle.std.proofs.Common.{arith, subst, take_all}
-use Rattle.std.proofs.lemmas.Result.{on_ok_weaker, on_err_weaker}
 use Rattle.proxy_record.specs.Rules.{GoodProxy}
 use Rattle.proxy_record.specs.Words.{proxy_size}
-use Rattle.replay.proofs.RunLaws.{fresh_words, ran_fresh, some_fresh}
+use Rattle.replay.proofs.RunLaws.{fresh_words, ran_fresh}
 use Rattle.replay.proofs.replay.Goals as goal
 
 pub replay_all-requires : goal.replay_all-requires
 replay_all-requires g c = subst GoodProxy (take_all proxy_size c.set_up.new.t (omega arith)) (c.set_up.ensures.good_proxy (omega arith))
 
-pub returns-clause-ran : goal.returns-clause-ran
-returns-clause-ran g c =
-    on_ok_weaker _ (ran_fresh _ _ _ _ _ _ _ (fresh_words _ _ (omega arith) c.set_up.ensures.result_value.1)) c.replay_all.ensures.ran
-
-pub returns-clause-failed : goal.returns-clause-failed
-returns-clause-failed g c =
-    on_err_weaker _ (some_fresh _ _ _ _ _ _ (fresh_words _ _ (omega arith) c.set_up.ensures.result_value.1)) c.replay_all.ensures.failed
+pub returns : goal.returns
+returns g c = ran_fresh _ _ _ _ _ _ _ (fresh_words _ _ (omega arith) c.set_up.ensures.result_value.1) c.replay_all.ensures
