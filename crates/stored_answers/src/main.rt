@@ -19,7 +19,7 @@ mod out;
 mod proxy;
 mod sets;
 
-ghost use Rattle.std.specs.Prelude.{◌≡◌, ◌<◌, ◌≤◌, length, IfOk};
+ghost use Rattle.std.specs.Prelude.{◌≡◌, ◌<◌, ◌≤◌, length};
 ghost use Rattle.proxy_record.specs.Words.{proxy_size};
 ghost use Rattle.proxy_record.specs.Rules.{GoodProxy};
 ghost use Rattle.assembly_record.specs.Rules.{GoodAssembler};
@@ -28,17 +28,10 @@ use crate::codes::{OF_ASSEMBLER, OF_COUNTER, OF_PROXY, takes};
 use crate::line::{call_of, read_line};
 use crate::out::no_call;
 use outcome::SetUp;
-use std::io;
 use std::io::Read;
 
 // A call, made and answered.
-fn answer(
-    rt: &impl Print,
-    proxy: &mut [u64],
-    assembler: &mut [u64],
-    area: &mut [u8],
-    line: &[u64],
-) -> io::Result<()>
+fn answer(rt: &impl Print, proxy: &mut [u64], assembler: &mut [u64], area: &mut [u8], line: &[u64])
     requires { GoodProxy proxy.old × GoodAssembler assembler.old }
     ensures { GoodProxy proxy.new × GoodAssembler assembler.new }
 {
@@ -64,15 +57,14 @@ fn answer_line(
     words: &mut [u64],
     input: &[u8],
     at: usize,
-) -> io::Result<usize>
+) -> usize
     requires { GoodProxy proxy.old × (GoodAssembler assembler.old × (at < length input.now)) }
-    ensures good_records { GoodProxy proxy.new × GoodAssembler assembler.new }
-    ensures further { IfOk result (λ next. (at < next) × (next ≤ length input.now)) }
+    ensures { GoodProxy proxy.new × (GoodAssembler assembler.new × ((at < result) × (result ≤ length input.now))) }
 {
     let l = read_line(input, at, words);
     let n = l.count;
-    answer(rt, proxy, assembler, area, &words[..n])?;
-    Ok(l.next)
+    answer(rt, proxy, assembler, area, &words[..n]);
+    l.next
 }
 
 // All lines, on good records.
@@ -83,14 +75,13 @@ fn answer_lines(
     area: &mut [u8],
     words: &mut [u64],
     input: &[u8],
-) -> io::Result<()>
+)
     requires { GoodProxy proxy.old × GoodAssembler assembler.old }
 {
     let mut at = 0;
     while at < input.len() {
-        at = answer_line(rt, proxy, assembler, area, words, input, at)?;
+        at = answer_line(rt, proxy, assembler, area, words, input, at);
     }
-    Ok(())
 }
 
 // Both records from set-up, so that they are good from the first line on.
@@ -101,50 +92,53 @@ fn run(
     area: &mut [u8],
     words: &mut [u64],
     input: &[u8],
-) -> io::Result<()>
+)
     requires { (length proxy.old ≡ proxy_size) × (length assembler.old ≡ 906) }
 {
     writer_proxy::set_up::set_up(proxy);
     let SetUp::Ready = fragment_assembler::set_up::set_up(assembler, 1, true, 1) else {
-        return Ok(());
+        return;
     };
-    answer_lines(rt, proxy, assembler, area, words, input)
+    answer_lines(rt, proxy, assembler, area, words, input);
 }
 
 // What was read, with fresh records and words lent. A large array is lent as an array first: its length is then part of its type.
-fn with_records(rt: &impl Print, area: &mut [u8; 264200], input: &[u8]) -> io::Result<()> {
+fn with_records(rt: &impl Print, area: &mut [u8; 264200], input: &[u8]) {
     let mut proxy = [0u64; 775];
     let mut assembler = [0u64; 906];
     let mut words = [0u64; 1200];
-    run(rt, &mut proxy, &mut assembler, area, &mut words, input)
+    run(rt, &mut proxy, &mut assembler, area, &mut words, input);
 }
 
-// Reads until all that is lent holds bytes or the input ends: how many were read.
-fn read_full(reader: &mut impl Read, input: &mut [u8]) -> io::Result<usize>
-    ensures { IfOk result (λ n. n ≤ length input.new) }
+// Reads until all that is lent holds bytes or the input ends: how many were read. A read that fails counts as the end.
+fn read_full(reader: &mut impl Read, input: &mut [u8]) -> usize
+    ensures { result ≤ length input.new }
 {
     let mut done = 0;
     while done < input.len() {
-        let n = reader.read(&mut input[done..])?;
+        let n = match reader.read(&mut input[done..]) {
+            Ok(n) => n,
+            Err(_) => 0,
+        };
         if n == 0 {
             break;
         }
         done += n;
     }
-    Ok(done)
+    done
 }
 
-fn answer_input(rt: &(impl Input + Print), input: &mut [u8]) -> io::Result<()> {
-    let n = read_full(&mut rt.reader(), input)?;
+fn answer_input(rt: &(impl Input + Print), input: &mut [u8]) {
+    let n = read_full(&mut rt.reader(), input);
     let mut area = [0u8; 264200];
-    with_records(rt, &mut area, &input[..n])
+    with_records(rt, &mut area, &input[..n]);
 }
 
-fn with_input(rt: &(impl Input + Print), input: &mut [u8; 400000]) -> io::Result<()> {
-    answer_input(rt, input)
+fn with_input(rt: &(impl Input + Print), input: &mut [u8; 400000]) {
+    answer_input(rt, input);
 }
 
-fn main(rt: HostRuntime) -> io::Result<()> {
+fn main(rt: HostRuntime) {
     let mut input = [0u8; 400000];
-    with_input(&rt, &mut input)
+    with_input(&rt, &mut input);
 }

@@ -11,7 +11,6 @@ use crate::line::Call;
 use crate::out::{end, flag, line, next, no_call, pair, refusal, show_signed, two};
 use outcome::{Listing, SetUp};
 use proxy_steps::Report;
-use std::io;
 use writer_proxy::irrelevant::{
     irrelevant_changes_range, irrelevant_changes_up_to, set_irrelevant_change,
 };
@@ -23,7 +22,7 @@ use writer_proxy::received::received_changes_add;
 use writer_proxy::set_up::set_up;
 
 // A set-up's refusal, or 0.
-fn told_set_up(rt: &impl Print, r: SetUp) -> io::Result<()> {
+fn told_set_up(rt: &impl Print, r: SetUp) {
     match r {
         SetUp::Refused(k) => return refusal(rt, k),
         SetUp::Ready => return refusal(rt, 0),
@@ -31,36 +30,36 @@ fn told_set_up(rt: &impl Print, r: SetUp) -> io::Result<()> {
 }
 
 // What became of set-up, and the digest of its words.
-fn start(rt: &impl Print, t: &mut [u64]) -> io::Result<()>
+fn start(rt: &impl Print, t: &mut [u64])
     ensures { GoodProxy t.old → GoodProxy t.new }
 {
-    told_set_up(rt, set_up(t))?;
-    next(rt, words_digest(t))?;
-    end(rt)
+    told_set_up(rt, set_up(t));
+    next(rt, words_digest(t));
+    end(rt);
 }
 
 // On other words: room.
-fn start_on(rt: &impl Print, room: u64, lent: &mut [u64]) -> io::Result<()> {
+fn start_on(rt: &impl Print, room: u64, lent: &mut [u64]) {
     let n = room as usize;
     if lent.len() < n {
         return no_call(rt);
     }
-    start(rt, &mut lent[..n])
+    start(rt, &mut lent[..n]);
 }
 
-fn start_fresh(rt: &impl Print, room: u64) -> io::Result<()> {
+fn start_fresh(rt: &impl Print, room: u64) {
     let mut lent = [90u64; 1000];
-    start_on(rt, room, &mut lent)
+    start_on(rt, room, &mut lent);
 }
 
 // A refusal; or 0 and 0; or 0, 1 and the forced step.
-fn told_report(rt: &impl Print, r: Report) -> io::Result<()> {
+fn told_report(rt: &impl Print, r: Report) {
     match r {
         Report::Done => return two(rt, 0, 0),
         Report::Forced(old, new) => {
-            two(rt, 0, 1)?;
-            next(rt, old)?;
-            next(rt, new)
+            two(rt, 0, 1);
+            next(rt, old);
+            next(rt, new);
         }
         Report::Refused(k) => return refusal(rt, k),
     }
@@ -81,17 +80,17 @@ fn changed(t: &mut [u64], code: u64, first: u64, second: u64) -> Report
 }
 
 // What became of a change, the base after it, and the digest of the record.
-fn change(rt: &impl Print, t: &mut [u64], c: Call) -> io::Result<()>
+fn change(rt: &impl Print, t: &mut [u64], c: Call)
     requires { GoodProxy t.old }
     ensures { GoodProxy t.new }
 {
-    told_report(rt, changed(t, c.code, c.first, c.second))?;
-    next(rt, all_ackable_before(t))?;
-    next(rt, words_digest(t))?;
-    end(rt)
+    told_report(rt, changed(t, c.code, c.first, c.second));
+    next(rt, all_ackable_before(t));
+    next(rt, words_digest(t));
+    end(rt);
 }
 
-fn told_status(rt: &impl Print, s: Status) -> io::Result<()> {
+fn told_status(rt: &impl Print, s: Status) {
     match s {
         Status::Untracked => return line(rt, 0),
         Status::NotAvailable => return line(rt, 1),
@@ -99,7 +98,7 @@ fn told_status(rt: &impl Print, s: Status) -> io::Result<()> {
     }
 }
 
-fn told_last(rt: &impl Print, l: LastReceived) -> io::Result<()> {
+fn told_last(rt: &impl Print, l: LastReceived) {
     match l {
         LastReceived::Nothing => return line(rt, 0),
         LastReceived::Number(number, time) => return pair(rt, number, time),
@@ -107,7 +106,7 @@ fn told_last(rt: &impl Print, l: LastReceived) -> io::Result<()> {
 }
 
 // Ignored and status: number. Last and base: nothing.
-fn ask(rt: &impl Print, t: &[u64], code: u64, number: u64) -> io::Result<()>
+fn ask(rt: &impl Print, t: &[u64], code: u64, number: u64)
     requires { GoodProxy t.now }
 {
     match code {
@@ -119,7 +118,7 @@ fn ask(rt: &impl Print, t: &[u64], code: u64, number: u64) -> io::Result<()>
 }
 
 // A refusal, or 0 and how many were listed.
-fn told_listing(rt: &impl Print, l: Listing) -> io::Result<()> {
+fn told_listing(rt: &impl Print, l: Listing) {
     match l {
         Listing::Refused(k) => return refusal(rt, k),
         Listing::Listed(n) => return two(rt, 0, n as u64),
@@ -127,7 +126,7 @@ fn told_listing(rt: &impl Print, l: Listing) -> io::Result<()> {
 }
 
 // Missing numbers: start end room.
-fn list_missing(rt: &impl Print, t: &[u64], c: Call, lent: &mut [i64]) -> io::Result<()>
+fn list_missing(rt: &impl Print, t: &[u64], c: Call, lent: &mut [i64])
     requires { GoodProxy t.now }
 {
     let n = c.third as usize;
@@ -137,18 +136,18 @@ fn list_missing(rt: &impl Print, t: &[u64], c: Call, lent: &mut [i64]) -> io::Re
     told_listing(
         rt,
         missing_seqnums(t, signed(c.first), signed(c.second), &mut lent[..n]),
-    )?;
-    show_signed(rt, &lent[..n])
+    );
+    show_signed(rt, &lent[..n]);
 }
 
-fn list_lent(rt: &impl Print, t: &[u64], c: Call) -> io::Result<()>
+fn list_lent(rt: &impl Print, t: &[u64], c: Call)
     requires { GoodProxy t.now }
 {
     let mut lent = [90i64; 300];
-    list_missing(rt, t, c, &mut lent)
+    list_missing(rt, t, c, &mut lent);
 }
 
-pub(crate) fn call(rt: &impl Print, t: &mut [u64], c: Call) -> io::Result<()>
+pub(crate) fn call(rt: &impl Print, t: &mut [u64], c: Call)
     requires { GoodProxy t.old }
     ensures { GoodProxy t.new }
 {

@@ -3,8 +3,5 @@ use Rattle.std.proofs.Common.{arith}
 use Rattle.stored_answers.proofs.KeepLaws.{set_up_keeps}
 use Rattle.stored_answers.proofs.assembler.start.Goals as goal
 
-pub returns-in_err-pair : goal.returns-in_err-pair
-returns-in_err-pair g c k = set_up_keeps _ _ _ _ _ _ c.set_up.ensures k (omega (arith, k.long))
-
 pub returns : goal.returns
 returns g c k = set_up_keeps _ _ _ _ _ _ c.set_up.ensures k (omega (arith, k.long))

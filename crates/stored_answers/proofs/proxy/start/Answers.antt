@@ -4,11 +4,5 @@ use Rattle.proxy_record.specs.Words.{proxy_size}
 use Rattle.proxy_record.specs.Rules.{GoodProxy}
 use Rattle.stored_answers.proofs.proxy.start.Goals as goal
 
-pub returns-in_err-told_set_up : goal.returns-in_err-told_set_up
-returns-in_err-told_set_up g c k = subst GoodProxy (take_all proxy_size c.set_up.new.t (omega (arith, k.whole))) (c.set_up.ensures.good_proxy (omega (arith, k.whole)))
-
-pub returns-in_err-next : goal.returns-in_err-next
-returns-in_err-next g c k = subst GoodProxy (take_all proxy_size c.set_up.new.t (omega (arith, k.whole))) (c.set_up.ensures.good_proxy (omega (arith, k.whole)))
-
 pub returns : goal.returns
 returns g c k = subst GoodProxy (take_all proxy_size c.set_up.new.t (omega (arith, k.whole))) (c.set_up.ensures.good_proxy (omega (arith, k.whole)))
