@@ -17,7 +17,8 @@ pub(crate) fn first(rt: &impl Print, n: u64) {
 
 // A word after the first.
 pub(crate) fn next(rt: &impl Print, n: u64) {
-    pass(print!(rt; " {n:x}"));
+    pass(rt.write_all(b" "));
+    pass(print!(rt; "{n:x}"));
 }
 
 pub(crate) fn end(rt: &impl Print) {
