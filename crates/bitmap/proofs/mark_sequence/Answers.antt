@@ -13,13 +13,13 @@ use mathlib.Core.Path.{◌≡◌, refl, ap, ◌∙◌}
 use Prim.Native.Nat.{ℕ, ◌-◌, ◌/◌, ◌≤◌}
 use borrow.Author.Rules.{rules}
 use Rattle.bitmap.proofs.mark_sequence.Goals as goal
-use Rattle.bitmap.proofs.mark_sequence.Goals.{then-i-count, else-i-count}
+use Rattle.bitmap.proofs.mark_sequence.Goals.{then-i-count, else-i-count, After-natural}
 
 -- the element, as it comes back from `natural`
-here : (c : goal.After-natural) → c.natural.result ≡ nat_of (get_or c.args.list.now c.loop-j.j (pos 0))
+here : (c : After-natural) → c.natural.result ≡ nat_of (get_or c.args.list.now c.loop-j.j (pos 0))
 here c =
     c.natural.ensures
-    ∙ ap nat_of (to_z-of_z {w = w64} {z = get_or c.args.list.now c.loop-j.j (pos 0)} (record { sfits = c.natural-arg-1.given }))
+    ∙ ap nat_of (to_z-of_z {w = w64} {z = get_or c.args.list.now c.loop-j.j (pos 0)} (record { sfits = omega arith }))
 
 pub loop-j-init : goal.loop-j-init
 loop-j-init c = (search rules, refl)
@@ -27,14 +27,11 @@ loop-j-init c = (search rules, refl)
 pub overflow_sub-i : goal.overflow_sub-i
 overflow_sub-i c = omega (arith, here c, c.requires.by_index c.loop-j.j c.loop-j-test.true)
 
-pub overflow_cast-i : goal.overflow_cast-i
-overflow_cast-i c = record { fits = omega arith }
-
 pub loop-j-preserved : goal.loop-j-preserved
 loop-j-preserved c =
     let l = c.loop-j in
     let a = c.args in
-    let e = here c.before in
+    let e = here (goal.at.loop-j-preserved c).After-natural in
     elim c.if-i-count.branch [
       | then-i-count w ↦ (
         omega arith,

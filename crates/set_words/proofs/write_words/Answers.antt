@@ -10,9 +10,6 @@ use Rattle.set_words.proofs.write_words.Goals as goal
 pub loop-i-init : goal.loop-i-init
 loop-i-init c = (search rules, refl, refl)
 
-pub write_word-requires : goal.write_word-requires
-write_word-requires c = omega arith
-
 pub loop-i-preserved : goal.loop-i-preserved
 loop-i-preserved c =
     let l = c.loop-i in

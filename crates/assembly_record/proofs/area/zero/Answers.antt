@@ -7,15 +7,6 @@ use Rattle.assembly_record.proofs.area.zero.Goals as goal
 pub loop-i-init : goal.loop-i-init
 loop-i-init c = (omega arith, refl, refl)
 
-pub bounds-d-i : goal.bounds-d-i
-bounds-d-i c = omega arith
-
-pub overflow_add-i : goal.overflow_add-i
-overflow_add-i c = omega arith
-
-pub loop-i-smaller : goal.loop-i-smaller
-loop-i-smaller c = omega arith
-
 pub loop-i-preserved : goal.loop-i-preserved
 loop-i-preserved c =
     let d₀ = c.args.d.now in

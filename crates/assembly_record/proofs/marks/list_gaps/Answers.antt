@@ -23,27 +23,15 @@ room c =
 pub loop-i-init : goal.loop-i-init
 loop-i-init c = (omega arith, refl, refl, refl)
 
-pub overflow_add-i : goal.overflow_add-i
-overflow_add-i c = omega arith
-
-pub is_marked-requires : goal.is_marked-requires
-is_marked-requires c = omega arith
-
-pub overflow_cast-out : goal.overflow_cast-out
-overflow_cast-out c = omega arith
-
 pub offset_bounds-out-k : goal.offset_bounds-out-k
 offset_bounds-out-k c =
-    omega (arith, room c, c.well_formed.1.1.0.1)
+    omega (arith, room c)
 
 pub bounds-out-k : goal.bounds-out-k
 bounds-out-k c = omega (arith, room c)
 
 pub overflow_add-k : goal.overflow_add-k
-overflow_add-k c = omega (arith, room c, c.well_formed.1.1.0.0)
-
-pub loop-i-smaller-then-not-is_marked : goal.loop-i-smaller-then-not-is_marked
-loop-i-smaller-then-not-is_marked c = omega arith
+overflow_add-k c = omega (arith, room c)
 
 pub loop-i-preserved-then-not-is_marked : goal.loop-i-preserved-then-not-is_marked
 loop-i-preserved-then-not-is_marked c =
@@ -54,9 +42,6 @@ loop-i-preserved-then-not-is_marked c =
       ap (set c.loop-i.out c.loop-i.k) e ∙ g.0 ∙ ap (λ (j : ℕ). over (gaps c.args.m.now j) c.args.out.now) (sym e),
       length-set c.loop-i.out c.loop-i.k (c.loop-i.i + 1) ∙ c.loop-i.invariant.3,
     )
-
-pub loop-i-smaller : goal.loop-i-smaller
-loop-i-smaller c = omega arith
 
 pub loop-i-preserved : goal.loop-i-preserved
 loop-i-preserved c =

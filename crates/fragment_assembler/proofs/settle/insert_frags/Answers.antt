@@ -23,12 +23,12 @@ overflow_mul-n c =
 pub overflow_mul-seat : goal.overflow_mul-seat
 overflow_mul-seat c =
     let x = c.args in
-    omega (arith, run_room x.t.now (length x.area.now) x.seat x.opened (run_with x.number x.time x.start x.count x.payload.now) c.requires, c.well_formed.1.0.0)
+    omega (arith, run_room x.t.now (length x.area.now) x.seat x.opened (run_with x.number x.time x.start x.count x.payload.now) c.requires)
 
 pub overflow_add-seat : goal.overflow_add-seat
 overflow_add-seat c =
     let x = c.args in
-    omega (arith, run_off x.t.now (length x.area.now) x.seat x.opened (run_with x.number x.time x.start x.count x.payload.now) c.requires, run_room x.t.now (length x.area.now) x.seat x.opened (run_with x.number x.time x.start x.count x.payload.now) c.requires, c.well_formed.1.0.0)
+    omega (arith, run_off x.t.now (length x.area.now) x.seat x.opened (run_with x.number x.time x.start x.count x.payload.now) c.requires, run_room x.t.now (length x.area.now) x.seat x.opened (run_with x.number x.time x.start x.count x.payload.now) c.requires)
 
 pub copy_at-requires : goal.copy_at-requires
 copy_at-requires c =

@@ -28,7 +28,6 @@ overflow_mul-seat c =
     omega (
       arith,
       clear_fits x.t.now x.area.now (fragment_with x.time x.number x.fragment_size x.data_size x.start x.count x.payload.now) c.requires.0 (sym c.refuse-no.ensures ∙ c.if-no-ne0.false) (omega (arith, c.seek-at.ensures, c.if-at-lt-PLACES.false)) _ c.seek-seat.ensures,
-      c.well_formed.1.0.0,
     )
 
 pub clear_at-requires : goal.clear_at-requires
