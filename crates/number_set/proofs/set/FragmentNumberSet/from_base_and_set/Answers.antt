@@ -1,6 +1,5 @@
 -- `number_set::set::FragmentNumberSet::from_base_and_set` meets its contract: each answer is a case of `make_set`.
 -- Assumes nothing.
--- `none_below`: no element is below low.
 use Rattle.number_set.proofs.MakeLaws.{none_below, spanned_small, make_falls, make_empty, make_low, make_span}
 use Rattle.sequence_number.proofs.KindLaws.{fragment_lawful}
 use Rattle.number_set.specs.Make.{fragment_set_made}

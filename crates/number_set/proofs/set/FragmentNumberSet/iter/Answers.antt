@@ -1,6 +1,5 @@
 -- `number_set::set::FragmentNumberSet::iter` meets its contract: what refuses, or the members written, is a case of `Walks`.
 -- Assumes nothing.
--- `agree`: the first position that does not fit.
 use Rattle.sequence_number.specs.Kind.{fragment_number}
 use Rattle.number_set.specs.NumberSet.{fragment_set}
 use Rattle.sequence_number.proofs.FitLaws.{fragment_agree}
