@@ -4,6 +4,13 @@ use mathlib.Core.Path.{◌≡◌, refl, ◌∙◌}
 use lib.ListN.{length, drop, length-take, length-drop}
 use Rattle.replay_lines.proofs.FeedLaws.{going_first, going_last, going_on, room_left}
 use Rattle.replay_lines.proofs.feed.take_bytes.Goals as goal
+use Rattle.replay_lines.proofs.feed.take_bytes.Goals.{In-loop-i}
+
+-- behind what is written there is room for the longest answer
+left : (c : In-loop-i) → c.loop-i.wrote + 5148 ≤ length c.loop-i.out
+left c =
+    let l = c.loop-i in
+    room_left _ c.args.piece.now c.args.out.now c.requires.3 l.i l.words l.list l.held l.n l.wrote l.out l.invariant.3 c.loop-i-test.true
 
 pub loop-i-init : goal.loop-i-init
 loop-i-init c =
@@ -13,34 +20,19 @@ loop-i-init c =
 pub overflow_add-end : goal.overflow_add-end
 overflow_add-end c =
     let l = c.loop-i in
-    let a = c.args in
-    let p = c.requires in
-    let left : l.wrote + 5148 ≤ length l.out = room_left _ a.piece.now a.out.now p.3 l.i l.words l.list l.held l.n l.wrote l.out l.invariant.3 c.loop-i-test.true in
+    let room = left (goal.at.overflow_add-end c).In-loop-i in
     omega (arith, l.invariant.3.out_whole)
-
-pub bounds-piece-i : goal.bounds-piece-i
-bounds-piece-i c = omega arith
-
-pub slice_bounds-take_byte-count : goal.slice_bounds-take_byte-count
-slice_bounds-take_byte-count c = omega arith
-
-pub slice_bounds-take_byte-start : goal.slice_bounds-take_byte-start
-slice_bounds-take_byte-start c = omega arith
 
 pub slice_bounds-take_byte-end : goal.slice_bounds-take_byte-end
 slice_bounds-take_byte-end c =
     let l = c.loop-i in
-    let a = c.args in
-    let p = c.requires in
-    let left : l.wrote + 5148 ≤ length l.out = room_left _ a.piece.now a.out.now p.3 l.i l.words l.list l.held l.n l.wrote l.out l.invariant.3 c.loop-i-test.true in
+    let room = left (goal.at.slice_bounds-take_byte-end c).In-loop-i in
     omega arith
 
 pub take_byte-step-requires : goal.take_byte-step-requires
 take_byte-step-requires c =
     let l = c.loop-i in
-    let a = c.args in
-    let p = c.requires in
-    let left : l.wrote + 5148 ≤ length l.out = room_left _ a.piece.now a.out.now p.3 l.i l.words l.list l.held l.n l.wrote l.out l.invariant.3 c.loop-i-test.true in
+    let room = left (goal.at.take_byte-step-requires c).In-loop-i in
     (l.invariant.3.good, l.invariant.3.list_long, omega (arith, length-take ((l.wrote + 5148) - l.wrote) (drop l.wrote l.out), length-drop l.wrote l.out))
 
 pub overflow_add-wrote : goal.overflow_add-wrote
@@ -52,9 +44,6 @@ overflow_add-wrote c =
     let k = f.auto in
     let g = going_on _ a.piece.now a.out.now c.requires.3 l.i l.words l.list l.held l.n l.wrote l.out v.3 c.loop-i-test.true _ _ _ _ f.result k.out k.list f.ensures.good_proxy f.ensures.stepped in
     omega (arith, g.0, v.3.out_whole)
-
-pub loop-i-smaller : goal.loop-i-smaller
-loop-i-smaller c = omega arith
 
 pub loop-i-preserved : goal.loop-i-preserved
 loop-i-preserved c =
