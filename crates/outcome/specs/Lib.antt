@@ -1,4 +1,5 @@
 pub mod Outcome
+pub mod Refusal
 pub mod Lent
 pub mod Row
 pub mod Answers

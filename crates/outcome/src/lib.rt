@@ -1,18 +1,53 @@
-// What a call answers, said once for every crate above: refused with a number of document 01's table, or done. The definitions are in specs/;
-// the answers that both records share are here.
-
-// What a set-up says.
+// What every call above answers where it is refused: a row of document 01's table. The definitions are in specs/.
 #![tactic(auto)]
 
-#[derive(Drop)]
-pub enum SetUp {
-    Refused(u8),
-    Ready,
+ghost use Rattle.std.specs.Prelude.{◌≡◌};
+ghost use Rattle.outcome.specs.Refusal.{number_of_refusal};
+
+use std::error::Error;
+use std::fmt;
+
+// The rows of document 01's table, each with its number.
+#[derive(Clone, Copy, Debug, PartialEq, Eq, Hash)]
+pub enum Refusal {
+    EndsEarly = 1,
+    TooManyBits = 2,
+    ShortOutput = 3,
+    NoNumber = 4,
+    BackwardRange = 5,
+    OtherFragmentSize = 6,
+    ShortSample = 7,
+    LongSample = 8,
+    ManyFragments = 9,
+    EmptyRun = 10,
+    StartZero = 11,
+    RunPastEnd = 12,
+    ShortArea = 13,
+    BadSetUp = 14,
+    NotRising = 15,
 }
 
-// What a call says that lists to lent entries: how many it wrote.
-#[derive(Drop)]
-pub enum Listing {
-    Refused(u8),
-    Listed(usize),
+impl Refusal {
+    // The row's number.
+    pub fn number(self) -> u8
+        ensures { result ≡ number_of_refusal self }
+    {
+        self as u8
+    }
 }
+
+impl From<Refusal> for u32 {
+    ghost from_gives = { λ refusal n. n ≡ number_of_refusal refusal };
+
+    fn from(refusal: Refusal) -> u32 {
+        refusal.number() as u32
+    }
+}
+
+impl fmt::Display for Refusal {
+    fn fmt<W: fmt::Write>(&self, f: &mut fmt::Formatter<W>) -> fmt::Result {
+        write!(f, "refused {}", self.number())
+    }
+}
+
+impl Error for Refusal {}
