@@ -39,10 +39,10 @@ walked_back_said (walked_as.Listed x) = refl
 pub walked_determined : (r r' : Walked) {x : Outcome ℕ} → walked_said r ≡ x → walked_said r' ≡ x → r ≡ r'
 walked_determined = said_determined walked_said walked_back walked_back_said
 
-pub writes_set_determined : {k : Kind} {o : ByteOrder} {s : NumberSet k.Number} {before after after' : List ℕ} {r r' : Written}
+pub writes_set_determined : {k : Kind} {o : ByteOrder} {s : NumberSet N} {before after after' : List ℕ} {r r' : Written}
     → WritesSet k o s before r after → WritesSet k o s before r' after' → (r ≡ r') × (after ≡ after')
 writes_set_determined {r} {r'} p q = (wrote_determined r r' p.answer q.answer, p.bytes ∙ sym q.bytes)
 
-pub walks_determined : {k : Kind} {s : NumberSet k.Number} {up : Bool} {before after after' : List k.Number} {r r' : Walked}
+pub walks_determined : {k : Kind} {s : NumberSet N} {up : Bool} {before after after' : List N} {r r' : Walked}
     → Walks k s up before r after → Walks k s up before r' after' → (r ≡ r') × (after ≡ after')
 walks_determined {r} {r'} p q = (walked_determined r r' p.answer q.answer, p.entries ∙ sym q.entries)

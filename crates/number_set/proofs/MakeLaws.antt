@@ -34,7 +34,7 @@ rising_front below d x xs (suc n) =
     ap (λ (b : Bool). b && below (get_or xs n d) (get_or xs (suc n) d)) (rising_front below d x xs n)
     ∙ and_assoc (below x (get_or xs 0 d)) (rising_to below d xs n) (below (get_or xs n d) (get_or xs (suc n) d))
 
-rising_indexed : (k : Kind) (xs : List k.Number) → rising_to k.below k.nought xs (length xs - 1) ≡ is_rising k xs
+rising_indexed : {N : Type 0} (k : Kind N) (xs : List N) → rising_to k.below k.nought xs (length xs - 1) ≡ is_rising k xs
 rising_indexed k [] = refl
 rising_indexed k (x ∷ []) = refl
 rising_indexed k (x ∷ y ∷ xs) =
@@ -69,9 +69,9 @@ module _ {A : Type 0} (below : A → A → Bool) (d : A) (xs : List A) where
       ∙ and-false (rising_to below d xs i) in
       ap (rising_to below d xs) (sym e) ∙ stays (i + 1) (n - (i + 1)) s
 
-module _ (k : Kind) (law : Lawful k) where
+module _ {N : Type 0} (k : Kind N) (law : Lawful k) where
   -- a rising list is nowhere below its first
-  first_least : (xs : List k.Number) (n : ℕ) → rising_to k.below k.nought xs n ≡ true → (j : ℕ) → j ≤ n
+  first_least : (xs : List N) (n : ℕ) → rising_to k.below k.nought xs n ≡ true → (j : ℕ) → j ≤ n
       → law.rank (get_or xs 0 k.nought) ≤ law.rank (get_or xs j k.nought)
   first_least xs zero r j h =
       let e : j ≡ 0 = omega arith in
@@ -89,29 +89,29 @@ module _ (k : Kind) (law : Lawful k) where
           (both (rising_to k.below k.nought xs n) (k.below (get_or xs n k.nought) (get_or xs (suc n) k.nought)) r).1 in
           subst (λ (i : ℕ). law.rank (get_or xs 0 k.nought) ≤ law.rank (get_or xs i k.nought)) (sym e) (omega arith)
 
-  smaller_least : (base x : k.Number) → law.rank (smaller k base x) ≤ law.rank x
+  smaller_least : (base x : N) → law.rank (smaller k base x) ≤ law.rank x
   smaller_least base x =
       split (k.below x base) (λ e. rw e (omega arith)) (λ e. rw e (law.rank_above base x e))
 
   -- no element is below the lower of base and first
-  pub none_below : (base : k.Number) (xs : List k.Number) → is_rising k xs ≡ true → (low : k.Number) → low ≡ smaller k base (get_or xs 0 k.nought)
+  pub none_below : (base : N) (xs : List N) → is_rising k xs ≡ true → (low : N) → low ≡ smaller k base (get_or xs 0 k.nought)
       → (j : ℕ) → j < length xs → law.rank low ≤ law.rank (get_or xs j k.nought)
   none_below base xs r low l j h =
       let a = first_least xs (length xs - 1) (rising_indexed k xs ∙ r) j (omega arith) in
       let b = smaller_least base (get_or xs 0 k.nought) in
-      subst (λ (x : k.Number). law.rank x ≤ law.rank (get_or xs j k.nought)) (sym l) (omega arith)
+      subst (λ (x : N). law.rank x ≤ law.rank (get_or xs j k.nought)) (sym l) (omega arith)
 
 -- the answers of the test
-module _ (k : Kind) where
-  pub rising_short : (xs : List k.Number) → length xs ≡ 0 → true ≡ is_rising k xs
+module _ {N : Type 0} (k : Kind N) where
+  pub rising_short : (xs : List N) → length xs ≡ 0 → true ≡ is_rising k xs
   rising_short [] h = refl
   rising_short (x ∷ xs) h = absurd (omega arith)
 
-  pub rising_fails : (xs : List k.Number) (i : ℕ) → i < length xs - 1 → k.below (get_or xs i k.nought) (get_or xs (i + 1) k.nought) ≡ false
+  pub rising_fails : (xs : List N) (i : ℕ) → i < length xs - 1 → k.below (get_or xs i k.nought) (get_or xs (i + 1) k.nought) ≡ false
       → false ≡ is_rising k xs
   rising_fails xs i h q = sym (rising_stops k.below k.nought xs i (length xs - 1) h q) ∙ rising_indexed k xs
 
-  pub rising_ends : (xs : List k.Number) (i : ℕ) → i ≡ length xs - 1 → rising_to k.below k.nought xs i ≡ true → true ≡ is_rising k xs
+  pub rising_ends : (xs : List N) (i : ℕ) → i ≡ length xs - 1 → rising_to k.below k.nought xs i ≡ true → true ≡ is_rising k xs
   rising_ends xs i e r = sym r ∙ ap (rising_to k.below k.nought xs) e ∙ rising_indexed k xs
 
 -- ---- marking
@@ -132,28 +132,28 @@ spanned_small away = ⊎_elim (λ h. rw (lt-leb 256 away h) (omega arith)) (λ h
 
 -- ---- what making answers, by the tests that the code makes
 
-module _ (k : Kind) {A : Type 0} (answer : Outcome (NumberSet k.Number) → A) (base : k.Number) where
-  pub make_falls : (xs : List k.Number) → is_rising k xs ≡ false → answer (refused 15) ≡ answer (make_set k base xs)
+module _ {N : Type 0} (k : Kind N) {A : Type 0} (answer : Outcome (NumberSet N) → A) (base : N) where
+  pub make_falls : (xs : List N) → is_rising k xs ≡ false → answer (refused 15) ≡ answer (make_set k base xs)
   make_falls xs r = rw r
 
-  pub make_empty : (xs : List k.Number) → is_rising k xs ≡ true → length xs ≡ 0 → answer (done (empty_at base)) ≡ answer (make_set k base xs)
+  pub make_empty : (xs : List N) → is_rising k xs ≡ true → length xs ≡ 0 → answer (done (empty_at base)) ≡ answer (make_set k base xs)
   make_empty [] r e = refl
   make_empty (x ∷ xs) r e = absurd (omega arith)
 
-  pub make_low : (xs : List k.Number) → is_rising k xs ≡ true → (length xs ≡ 0 → ⊥) → (low : k.Number) → low ≡ smaller k base (get_or xs 0 k.nought)
+  pub make_low : (xs : List N) → is_rising k xs ≡ true → (length xs ≡ 0 → ⊥) → (low : N) → low ≡ smaller k base (get_or xs 0 k.nought)
       → k.below low k.least ≡ true → answer (done (empty_at k.least)) ≡ answer (make_set k base xs)
   make_low [] r ne low l b = absurd (ne refl)
   make_low (x ∷ xs) r ne low l b =
-      let c : k.below (smaller k base x) k.least ≡ true = sym (ap (λ (y : k.Number). k.below y k.least) l) ∙ b in
+      let c : k.below (smaller k base x) k.least ≡ true = sym (ap (λ (y : N). k.below y k.least) l) ∙ b in
       rw (r, c)
 
-  pub make_span : (xs : List k.Number) → is_rising k xs ≡ true → (length xs ≡ 0 → ⊥) → (low : k.Number) → low ≡ smaller k base (get_or xs 0 k.nought)
+  pub make_span : (xs : List N) → is_rising k xs ≡ true → (length xs ≡ 0 → ⊥) → (low : N) → low ≡ smaller k base (get_or xs 0 k.nought)
       → k.below low k.least ≡ false → (count : ℕ) (ws : List ℕ) → count ≡ spanned (k.apart low (get_or xs (length xs - 1) k.nought))
       → ws ≡ marked_to (k.apart low) k.nought xs count (length xs)
       → answer (done (record { base = low; count = count; words = ws })) ≡ answer (make_set k base xs)
   make_span [] r ne low l b count ws c m = absurd (ne refl)
   make_span (x ∷ xs) r ne low l b count ws c m =
-      let b' : k.below (smaller k base x) k.least ≡ false = sym (ap (λ (y : k.Number). k.below y k.least) l) ∙ b in
+      let b' : k.below (smaller k base x) k.least ≡ false = sym (ap (λ (y : N). k.below y k.least) l) ∙ b in
       let last : suc (length xs) - 1 ≡ length xs = omega arith in
       rw (r, b')
       (ap (λ (v : List ℕ). answer (done (record { base = low; count = count; words = v }))) (m ∙ marked_indexed (k.apart low) k.nought (x ∷ xs) count)
@@ -161,7 +161,7 @@ module _ (k : Kind) {A : Type 0} (answer : Outcome (NumberSet k.Number) → A) (
       ∙ (λ i. answer (done (set_from k (l i) (get_or (x ∷ xs) (last i) k.nought) (x ∷ xs)))))
 
 -- a refusal has its number: it is never 0
-pub make_numbered : (k : Kind) (base : k.Number) (xs : List k.Number) → make_set k base xs ≡ refused 0 → ⊥
+pub make_numbered : {N : Type 0} (k : Kind N) (base : N) (xs : List N) → make_set k base xs ≡ refused 0 → ⊥
 make_numbered k base xs e = go (is_rising k xs) e
   where
     go : (b : Bool) → cond b (done (set_over k base xs)) (refused 15) ≡ refused 0 → ⊥

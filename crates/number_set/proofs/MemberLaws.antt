@@ -50,7 +50,7 @@ bit_position ws (suc n) i h e =
     (split_lt i n)
 
 -- n is base + i for a set bit i below the count: that is listed, and nothing else
-module _ (k : Kind) (s : NumberSet k.Number) (n : k.Number) where
+module _ {N : Type 0} (k : Kind N) (s : NumberSet N) (n : N) where
   pub member_bit : Memᴰ n (members k s) → (i : ℕ) × (i < s.count) × (has_bit s.words i ≡ true) × (n ≡ k.plus s.base i)
   member_bit m =
       let f = Memᴰ.of_map (k.plus s.base) (positions s.words s.count) m in
@@ -92,7 +92,7 @@ positions_rise ws (suc n) i j h l =
     last before false (inr p) q = absurd (omega arith)
 
 -- "Members are listed rising or falling": rising, each member is below every later one
-pub members_rise : (k : Kind) → Lawful k → (s : NumberSet k.Number) (i j : ℕ) → i < j → j < length (members k s)
+pub members_rise : {N : Type 0} (k : Kind N) → Lawful k → (s : NumberSet N) (i j : ℕ) → i < j → j < length (members k s)
     → k.below (get_or (members k s) i k.nought) (get_or (members k s) j k.nought) ≡ true
 members_rise k law s i j h l =
     let ps : List ℕ = positions s.words s.count in
@@ -119,7 +119,7 @@ get_d_reverse (x ∷ l) i d h =
     (split_lt i (length l))
 
 -- "Members are listed rising or falling": falling, each member is above every later one
-pub members_fall : (k : Kind) → Lawful k → (s : NumberSet k.Number) (i j : ℕ) → i < j → j < length (reverse (members k s))
+pub members_fall : {N : Type 0} (k : Kind N) → Lawful k → (s : NumberSet N) (i j : ℕ) → i < j → j < length (reverse (members k s))
     → k.below (get_or (reverse (members k s)) j k.nought) (get_or (reverse (members k s)) i k.nought) ≡ true
 members_fall k law s i j h l =
     let n = length-reverse (members k s) in
@@ -196,12 +196,12 @@ index_mem d (y ∷ l) zero h = Memᴰ.head refl
 index_mem d (y ∷ l) (suc j) h = Memᴰ.tail (index_mem d l j (le_of_suc-le-suc h))
 
 -- "list members through last are set": a made set that is not empty at 1 holds exactly the list's members below base + count
-module _ (k : Kind) (law : Lawful k) (base x : k.Number) (xs : List k.Number) (r : is_rising k (x ∷ xs) ≡ true)
-    (above : k.below (smaller k base x) k.least ≡ false) (last n : k.Number) where
-  abbrev pub low : k.Number
+module _ {N : Type 0} (k : Kind N) (law : Lawful k) (base x : N) (xs : List N) (r : is_rising k (x ∷ xs) ≡ true)
+    (above : k.below (smaller k base x) k.least ≡ false) (last n : N) where
+  abbrev pub low : N
   low = smaller k base x
 
-  abbrev pub made : NumberSet k.Number
+  abbrev pub made : NumberSet N
   made = set_from k (smaller k base x) last (x ∷ xs)
 
   one_least : 1 ≤ law.rank (smaller k base x)
@@ -214,7 +214,7 @@ module _ (k : Kind) (law : Lawful k) (base x : k.Number) (xs : List k.Number) (r
   made_member m =
       let b = member_bit k made n m in
       let j = marked_bit (k.apart low) k.nought (x ∷ xs) made.count (spanned_small (k.apart low last)) (length (x ∷ xs)) b.0 (ap (λ (ws : List ℕ). has_bit ws b.0) words_indexed ∙ b.2) in
-      let y : k.Number = get_or (x ∷ xs) j.0 k.nought in
+      let y : N = get_or (x ∷ xs) j.0 k.nought in
       let e : n ≡ y =
       b.3 ∙ ap (k.plus low) (sym j.2) ∙ law.plus_apart low y one_least (none_below k law base (x ∷ xs) r low refl j.0 j.1) in
       (Memᴰ.cast e (index_mem k.nought (x ∷ xs) j.0 j.1), subst (λ (i : ℕ). i < made.count) (sym (ap (k.apart low) e ∙ j.2)) b.1)
@@ -227,5 +227,5 @@ module _ (k : Kind) (law : Lawful k) (base x : k.Number) (xs : List k.Number) (r
       (λ i. has_bit (sym words_indexed i) (sym f i))
       ∙ bit_marked (k.apart low) k.nought (x ∷ xs) made.count (spanned_small (k.apart low last)) (length (x ∷ xs)) j.0 j.1
       (subst (λ (i : ℕ). i < made.count) (sym f) h) in
-      let g : law.rank low ≤ law.rank n = subst (λ (y : k.Number). law.rank low ≤ law.rank y) j.2 (none_below k law base (x ∷ xs) r low refl j.0 j.1) in
+      let g : law.rank low ≤ law.rank n = subst (λ (y : N). law.rank low ≤ law.rank y) j.2 (none_below k law base (x ∷ xs) r low refl j.0 j.1) in
       bit_member k made n (k.apart low n) h b (sym (law.plus_apart low n one_least g))

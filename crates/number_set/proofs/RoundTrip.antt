@@ -49,9 +49,9 @@ module _ (o : ByteOrder) (ws : List ℕ) (all : Words ws) where
       (λ i. words_back front rest m n h (omega arith) i ++ (w i ∷ [])) ∙ sym (take-suc ws n 0 (omega arith))
 
 -- reading the written bytes gives the set back (base, count, the words of the count), and takes exactly the measured length
-module _ (k : Kind) (law : Lawful k) (o : ByteOrder) (s : NumberSet k.Number) (v : law.Valid s.base) (all : Words s.words)
+module _ {N : Type 0} (k : Kind N) (law : Lawful k) (o : ByteOrder) (s : NumberSet N) (v : law.Valid s.base) (all : Words s.words)
     (small : s.count ≤ 256) (out : List ℕ) where
-  abbrev pub back : NumberSet k.Number
+  abbrev pub back : NumberSet N
   back = record { base = s.base; count = s.count; words = take (word_count s.count) s.words ++ replicate (8 - word_count s.count) 0 }
 
   few : word_count s.count ≤ 8

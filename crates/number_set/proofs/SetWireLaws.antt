@@ -26,11 +26,11 @@ use Rattle.set_words.proofs.SetWordsLaws.{length_bits, wrote_means}
 -- ---- reading
 
 -- the answer of reading, from what the count said
-module _ (k : Kind) (o : ByteOrder) (s : List ℕ) {A : Type 0} (answer : Outcome (Taken k.Number) → A) where
+module _ {N : Type 0} (k : Kind N) (o : ByteOrder) (s : List ℕ) {A : Type 0} (answer : Outcome (Taken N) → A) where
   pub set_refused : {c : BitCount} (n : ℕ) → c ≡ bit_count.Refused n → bit_count_said c ≡ read_count k.size o s → answer (refused n) ≡ answer (read_set k o s)
   set_refused n p e = ap (λ (x : Outcome ℕ). answer (found (taken_set k o s) x)) (sym (ap bit_count_said p) ∙ e)
 
-  pub set_read : {c : BitCount} (n : ℕ) → c ≡ bit_count.Bits n → bit_count_said c ≡ read_count k.size o s → (x : k.Number) (ws : List ℕ) → x ≡ k.number_at o s 0
+  pub set_read : {c : BitCount} (n : ℕ) → c ≡ bit_count.Bits n → bit_count_said c ≡ read_count k.size o s → (x : N) (ws : List ℕ) → x ≡ k.number_at o s 0
       → ws ≡ read_words o s (k.size + 4) (word_count n)
       → answer (done (record { set = record { base = x; count = n; words = ws }; taken = set_length k.size n })) ≡ answer (read_set k o s)
   set_read n p e x ws f g =
@@ -38,7 +38,7 @@ module _ (k : Kind) (o : ByteOrder) (s : List ℕ) {A : Type 0} (answer : Outcom
       ∙ ap (λ (y : Outcome ℕ). answer (found (taken_set k o s) y)) (sym (ap bit_count_said p) ∙ e)
 
 -- a refusal has its number: it is never 0
-pub read_numbered : (k : Kind) (o : ByteOrder) (s : List ℕ) → read_set k o s ≡ refused 0 → ⊥
+pub read_numbered : {N : Type 0} (k : Kind N) (o : ByteOrder) (s : List ℕ) → read_set k o s ≡ refused 0 → ⊥
 read_numbered k o s e = go (ltb (length s) (k.size + 4)) (ltb 256 (word_at o s k.size)) (ltb (length s) (set_length k.size (word_at o s k.size))) e
   where
     go : (a b c : Bool)
@@ -50,14 +50,14 @@ read_numbered k o s e = go (ltb (length s) (k.size + 4)) (ltb 256 (word_at o s k
 
 -- ---- writing
 
-pub length_set_bytes : (k : Kind) → Lawful k → (o : ByteOrder) (s : NumberSet k.Number) → length (set_bytes k o s) ≡ set_length k.size s.count
+pub length_set_bytes : {N : Type 0} (k : Kind N) → Lawful k → (o : ByteOrder) (s : NumberSet N) → length (set_bytes k o s) ≡ set_length k.size s.count
 length_set_bytes k law o s =
     let a = law.length_number o s.base in
     let b = length_bits o s.count s.words in
     omega (arith, length-append (k.number_bytes o s.base) (bits_bytes o s.count s.words))
 
 -- the answers of writing, from what the leaf said of the room
-module _ (k : Kind) (law : Lawful k) (o : ByteOrder) (s : NumberSet k.Number) (before : List ℕ) where
+module _ {N : Type 0} (k : Kind N) (law : Lawful k) (o : ByteOrder) (s : NumberSet N) (before : List ℕ) where
   pub set_not_written : {w : Written} (n : ℕ) → w ≡ Refused n → written_said w ≡ write_set k.size s.count (length before) → WritesSet k o s before (Refused n) before
   set_not_written n q p =
       let e : refused n ≡ write_set k.size s.count (length before) = sym (ap written_said q) ∙ p in

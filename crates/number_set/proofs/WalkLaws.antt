@@ -46,7 +46,7 @@ surveyed_refused false m k p = let z : ◌≡◌ {A = ℕ} 0 1 = cc in absurd (o
 
 -- ---- the answers of a walk. fit is the first position that does not fit
 
-pub walk_long : (k : Kind) (s : NumberSet k.Number) (up : Bool) (before : List k.Number) → 256 < s.count → Walks k s up before (Refused 2) before
+pub walk_long : {N : Type 0} (k : Kind N) (s : NumberSet N) (up : Bool) (before : List N) → 256 < s.count → Walks k s up before (Refused 2) before
 walk_long k s up before h = record { answer = rw (lt-ltb 256 s.count h); entries = rw (lt-ltb 256 s.count h) }
 
 -- what refuses a walk: 4, 3, else 0
@@ -84,7 +84,7 @@ module _ (fits : ℕ → Bool) (ws : List ℕ) (count room : ℕ) (w : Walked) (
     pub refused_not : n ≤ room → 0 ≡ refused_by fits ws count room
     refused_not h = rw (found_none.0, le-ltb room (length (positions ws count)) (omega (arith, found_none.1)))
 
-module _ (k : Kind) (s : NumberSet k.Number) (up : Bool) (before : List k.Number) (small : s.count ≤ 256) (fit : ℕ)
+module _ {N : Type 0} (k : Kind N) (s : NumberSet N) (up : Bool) (before : List N) (small : s.count ≤ 256) (fit : ℕ)
     (agree : (i : ℕ) → i < 256 → ltb i fit ≡ k.fits s.base i) (r : ℕ)
     (e : r ≡ refused_by (λ (i : ℕ). ltb i fit) s.words s.count (length before)) where
   by_kind : r ≡ refused_by (k.fits s.base) s.words s.count (length before)
@@ -129,22 +129,22 @@ module _ (k : Kind) (s : NumberSet k.Number) (up : Bool) (before : List k.Number
         × ((any_past (k.fits s.base) (positions s.words s.count) ≡ false) × (length (positions s.words s.count) ≤ length before))
     walk_room = (small, taken)
 
-    walk_done : (n : ℕ) → n ≡ length (positions s.words s.count) → (ms after : List k.Number) → ms ≡ in_order up (members k s)
+    walk_done : (n : ℕ) → n ≡ length (positions s.words s.count) → (ms after : List N) → ms ≡ in_order up (members k s)
         → length ms ≡ length (members k s) → after ≡ sets before 0 ms → Walks k s up before (Listed n) after
     walk_done n c ms after m l a =
         let f = le-ltb (length before) (length (members k s)) (omega (arith, many, taken.1)) in
         record {
           answer = rw (le-ltb 256 s.count small, taken.0, f) (ap done (c ∙ sym many));
           entries = rw (le-ltb 256 s.count small, taken.0, f)
-              (a ∙ ap (λ (x : List k.Number). sets before 0 x) m
+              (a ∙ ap (λ (x : List N). sets before 0 x) m
               ∙ sets_over (in_order up (members k s)) before (omega (arith, ap length m, many, taken.1)));
         }
 
-    pub walk_up : up ≡ true → (n : ℕ) → n ≡ length (positions s.words s.count) → (after : List k.Number)
+    pub walk_up : up ≡ true → (n : ℕ) → n ≡ length (positions s.words s.count) → (after : List N)
         → after ≡ sets before 0 (map (k.plus s.base) (positions s.words s.count)) → Walks k s up before (Listed n) after
     walk_up u n c after a = walk_done n c (members k s) after (rw u) refl a
 
-    pub walk_down : up ≡ false → (n : ℕ) → n ≡ length (positions s.words s.count) → (after : List k.Number)
+    pub walk_down : up ≡ false → (n : ℕ) → n ≡ length (positions s.words s.count) → (after : List N)
         → after ≡ sets before 0 (map (k.plus s.base) (reverse (positions s.words s.count))) → Walks k s up before (Listed n) after
     walk_down u n c after a =
         walk_done n c (reverse (members k s)) after (rw u) (length-reverse (members k s))

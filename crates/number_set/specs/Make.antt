@@ -8,13 +8,13 @@ use Rattle.number_set.specs.declared.set.SequenceNumberSetMade.{SequenceNumberSe
 use Rattle.number_set.specs.declared.set.FragmentNumberSetMade.{FragmentNumberSetMade}
 
 -- "strictly rising": each element is below the next
-abbrev pub is_rising : (k : Kind) → List k.Number → Bool
+abbrev pub is_rising : {N : Type 0} (k : Kind N) → List N → Bool
 is_rising k [] = true
 is_rising k (x ∷ []) = true
 is_rising k (x ∷ y ∷ xs) = k.below x y && is_rising k (y ∷ xs)
 
 -- "base becomes the smaller of base and first element"
-abbrev pub smaller : (k : Kind) → k.Number → k.Number → k.Number
+abbrev pub smaller : {N : Type 0} (k : Kind N) → N → N → N
 smaller k a b = cond (k.below b a) b a
 
 -- "if last - base >= 256, last becomes base + 255. Count is last - base + 1"
@@ -27,7 +27,7 @@ set_bits place count ws [] = ws
 set_bits place count ws (x ∷ xs) = set_bits place count (cond (ltb (place x) count) (set_bit ws (place x)) ws) xs
 
 -- the set from low through last
-abbrev pub set_from : (k : Kind) → k.Number → k.Number → List k.Number → NumberSet k.Number
+abbrev pub set_from : {N : Type 0} (k : Kind N) → N → N → List N → NumberSet N
 set_from k low last xs =
     record {
       base = low;
@@ -36,16 +36,16 @@ set_from k low last xs =
     }
 
 -- "base below 1 then gives the empty set at 1", else the set from there on
-abbrev pub set_above : (k : Kind) → k.Number → k.Number → List k.Number → NumberSet k.Number
+abbrev pub set_above : {N : Type 0} (k : Kind N) → N → N → List N → NumberSet N
 set_above k low last xs = cond (k.below low k.least) (empty_at k.least) (set_from k low last xs)
 
 -- "an empty list gives the empty set at that base, whatever it is"
-abbrev pub set_over : (k : Kind) → k.Number → List k.Number → NumberSet k.Number
+abbrev pub set_over : {N : Type 0} (k : Kind N) → N → List N → NumberSet N
 set_over k base [] = empty_at base
 set_over k base (x ∷ xs) = set_above k (smaller k base x) (get_or (x ∷ xs) (length xs) k.nought) (x ∷ xs)
 
 -- "Making: 15" where the list does not rise strictly
-abbrev pub make_set : (k : Kind) → k.Number → List k.Number → Outcome (NumberSet k.Number)
+abbrev pub make_set : {N : Type 0} (k : Kind N) → N → List N → Outcome (NumberSet N)
 make_set k base xs = cond (is_rising k xs) (done (set_over k base xs)) (refused 15)
 
 -- the answers of making: a refusal has the empty set at 0

@@ -30,5 +30,5 @@ abbrev pub empty_at : {N : Type 0} → N → NumberSet N
 empty_at base = record { base = base; count = 0; words = zero_words }
 
 -- "Bit i .. stands for base + i": the members, rising. Unused bits of the last word and words past the count are not looked at
-abbrev pub members : (k : Kind) → NumberSet k.Number → List k.Number
+abbrev pub members : {N : Type 0} (k : Kind N) → NumberSet N → List N
 members k s = map (k.plus s.base) (positions s.words s.count)

@@ -23,7 +23,7 @@ pub record Taken (N : Type 0) : Type 0 where
   pub set : NumberSet N
   pub taken : ℕ
 
-abbrev pub taken_set : (k : Kind) → ByteOrder → List ℕ → ℕ → Taken k.Number
+abbrev pub taken_set : {N : Type 0} (k : Kind N) → ByteOrder → List ℕ → ℕ → Taken N
 taken_set k o s count =
     record {
       set = record { base = k.number_at o s 0; count = count; words = read_words o s (k.size + 4) (word_count count) };
@@ -31,7 +31,7 @@ taken_set k o s count =
     }
 
 -- the set at the front of the bytes; bytes after it are not looked at
-abbrev pub read_set : (k : Kind) → ByteOrder → List ℕ → Outcome (Taken k.Number)
+abbrev pub read_set : {N : Type 0} (k : Kind N) → ByteOrder → List ℕ → Outcome (Taken N)
 read_set k o s = found (taken_set k o s) (read_count k.size o s)
 
 -- the answers of reading: a refusal has the empty set at 0, and takes nothing
@@ -44,11 +44,11 @@ fragment_set_read (refused n) = record { refusal = n; taken = 0; set = fragment_
 fragment_set_read (done t) = record { refusal = 0; taken = t.taken; set = fragment_struct t.set }
 
 -- "A set is base, bit count (u32), then ceil(count / 32) words"; unused bits of the last word are written as they are
-abbrev pub set_bytes : (k : Kind) → ByteOrder → NumberSet k.Number → List ℕ
+abbrev pub set_bytes : {N : Type 0} (k : Kind N) → ByteOrder → NumberSet N → List ℕ
 set_bytes k o s = k.number_bytes o s.base ++ bits_bytes o s.count s.words
 
 -- what writing a set to the lent bytes promises: the answer, and each byte
-pub record WritesSet (k : Kind) (o : ByteOrder) (s : NumberSet k.Number) (before : List ℕ) (r : Written) (after : List ℕ) : Type 0 where
+pub record WritesSet {N : Type 0} (k : Kind N) (o : ByteOrder) (s : NumberSet N) (before : List ℕ) (r : Written) (after : List ℕ) : Type 0 where
   pub answer : written_said r ≡ write_set k.size s.count (length before)
   pub bytes : after ≡ left (write_set k.size s.count (length before)) (set_bytes k o s) before
 

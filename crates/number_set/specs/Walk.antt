@@ -13,7 +13,7 @@ walked_said (Refused n) = refused n
 walked_said (Listed n) = done n
 
 -- "A set walked: 2, 4, 3", else how many members there are
-abbrev pub walk_set : (k : Kind) → NumberSet k.Number → ℕ → Outcome ℕ
+abbrev pub walk_set : {N : Type 0} (k : Kind N) → NumberSet N → ℕ → Outcome ℕ
 walk_set k s room =
     cond (ltb 256 s.count) (refused 2)
     (cond (any_past (k.fits s.base) (positions s.words s.count)) (refused 4)
@@ -25,6 +25,6 @@ abbrev pub in_order : {A : Type 0} → Bool → List A → List A
 in_order up l = cond up l (reverse l)
 
 -- what a walk to the lent list promises: the answer, and each entry
-pub record Walks (k : Kind) (s : NumberSet k.Number) (up : Bool) (before : List k.Number) (r : Walked) (after : List k.Number) : Type 0 where
+pub record Walks {N : Type 0} (k : Kind N) (s : NumberSet N) (up : Bool) (before : List N) (r : Walked) (after : List N) : Type 0 where
   pub answer : walked_said r ≡ walk_set k s (length before)
   pub entries : after ≡ left (walk_set k s (length before)) (in_order up (members k s)) before

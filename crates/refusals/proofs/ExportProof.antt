@@ -65,7 +65,7 @@ module _ {A : Type 0} (x : Outcome A) (rows : List Row) (p : positive rows ≡ t
         untouched = λ n z. ((lends answer out list l).untouched n z, (gives before after g).untouched n z);
       }
 
-module _ (k : Kind) where
+module _ {N : Type 0} (k : Kind N) where
   number_read : ReadNumberOut k
   number_read big s r = gives (read_number k (order_of big) s) (read_number_rows k s) refl (read_number_exactly k (order_of big) s) r
 
@@ -78,7 +78,7 @@ module _ (k : Kind) where
   set_measured : MeasureSetOut k
   set_measured s r = gives (measure_set k.size s.count) (measure_set_rows k s) refl (measure_exactly k s) r
 
-module _ (k : Kind) (law : Lawful k) where
+module _ {N : Type 0} (k : Kind N) (law : Lawful k) where
   number_written : WriteNumberOut k
   number_written big n out after r =
       lends (write_number k (length out)) (write_number_rows k (order_of big) n out) refl (write_number_exactly k law (order_of big) n out) r
@@ -89,7 +89,7 @@ module _ (k : Kind) (law : Lawful k) where
       gives_lends (write_set k.size s.count (length out)) (write_set_rows k (order_of big) s out) refl (write_set_exactly k law (order_of big) s out) r
       wrote wrote' (set_bytes k (order_of big) s) out after
 
-set_walked : (k : Kind) (Past : k.Number → Type 0) → ((s : NumberSet k.Number) (out : List k.Number) → Exactly (verdict (walk_set k s (length out))) (walk_rows k Past s out))
+set_walked : {N : Type 0} (k : Kind N) (Past : N → Type 0) → ((s : NumberSet N) (out : List N) → Exactly (verdict (walk_set k s (length out))) (walk_rows k Past s out))
     → WalkSetOut k Past
 set_walked k Past e s up out after r count count' =
     gives_lends (walk_set k s (length out)) (walk_rows k Past s out) refl (e s out) r count count' (in_order up (members k s)) out after

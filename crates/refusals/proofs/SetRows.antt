@@ -30,11 +30,11 @@ use Rattle.outcome.proofs.RowLaws.{none_left, asks, asks_not, asks_less, positiv
 
 -- ---- what is found, or why it is refused
 
-module _ (k : Kind) where
+module _ {N : Type 0} (k : Kind N) where
   pub read_number_exactly : (o : ByteOrder) (s : List ℕ) → Exactly (verdict (read_number k o s)) (read_number_rows k s)
   read_number_exactly o s = asks_less verdict refl (length s) k.size (λ h. none_left)
 
-  pub measure_exactly : (s : NumberSet k.Number) → Exactly (verdict (measure_set k.size s.count)) (measure_set_rows k s)
+  pub measure_exactly : (s : NumberSet N) → Exactly (verdict (measure_set k.size s.count)) (measure_set_rows k s)
   measure_exactly s = asks_less verdict refl 256 s.count (λ h. none_left)
 
   pub read_set_exactly : (o : ByteOrder) (s : List ℕ) → Exactly (verdict (read_set k o s)) (read_set_rows k o s)
@@ -44,30 +44,30 @@ module _ (k : Kind) where
       asks_less reads refl (length s) (k.size + 4)
       (λ a. asks_less reads refl 256 count (λ b. asks_less reads refl (length s) (set_length k.size count) (λ c. none_left)))
 
-module _ (k : Kind) (law : Lawful k) (o : ByteOrder) where
-  pub write_number_exactly : (n : k.Number) (out : List ℕ) → Exactly (verdict (write_number k (length out))) (write_number_rows k o n out)
+module _ {N : Type 0} (k : Kind N) (law : Lawful k) (o : ByteOrder) where
+  pub write_number_exactly : (n : N) (out : List ℕ) → Exactly (verdict (write_number k (length out))) (write_number_rows k o n out)
   write_number_exactly n out = rw (law.length_number o n) (asks_less verdict refl (length out) k.size (λ h. none_left))
 
-  pub write_set_exactly : (s : NumberSet k.Number) (out : List ℕ) → Exactly (verdict (write_set k.size s.count (length out))) (write_set_rows k o s out)
+  pub write_set_exactly : (s : NumberSet N) (out : List ℕ) → Exactly (verdict (write_set k.size s.count (length out))) (write_set_rows k o s out)
   write_set_exactly s out =
       rw (length_set_bytes k law o s)
       (asks_less verdict refl 256 s.count (λ a. asks_less verdict refl (length out) (set_length k.size s.count) (λ b. none_left)))
 
 -- ---- rising lists
 
-module _ (k : Kind) where
-  rises : (xs : List k.Number) → is_rising k xs ≡ true → StrictlyRising k xs
+module _ {N : Type 0} (k : Kind N) where
+  rises : (xs : List N) → is_rising k xs ≡ true → StrictlyRising k xs
   rises [] e i h = absurd (omega arith)
   rises (x ∷ []) e i h = absurd (omega arith)
   rises (x ∷ y ∷ xs) e zero h = (both (k.below x y) (is_rising k (y ∷ xs)) e).0
   rises (x ∷ y ∷ xs) e (suc i) h = rises (y ∷ xs) (both (k.below x y) (is_rising k (y ∷ xs)) e).1 i (omega arith)
 
-  risen : (xs : List k.Number) → StrictlyRising k xs → is_rising k xs ≡ true
+  risen : (xs : List N) → StrictlyRising k xs → is_rising k xs ≡ true
   risen [] f = refl
   risen (x ∷ []) f = refl
   risen (x ∷ y ∷ xs) f = rw (f 0 (omega arith)) (risen (y ∷ xs) (λ i h. f (suc i) (omega arith)))
 
-  pub make_exactly : (base : k.Number) (xs : List k.Number) → Exactly (verdict (make_set k base xs)) (make_set_rows k xs)
+  pub make_exactly : (base : N) (xs : List N) → Exactly (verdict (make_set k base xs)) (make_set_rows k xs)
   make_exactly base xs =
       asks_not verdict refl (is_rising k xs)
       (λ f s. let t = risen xs s in let z : ◌≡◌ {A = ℕ} 0 1 = cc in omega arith)
@@ -90,21 +90,21 @@ none_past fits (q ∷ ps) e p m =
     (λ t. ⊎_elim (λ z. rw z t) (λ n. none_past fits ps (rw t at e) p n) (Memᴰ.cases_cons m))
     (λ t. let z : ◌≡◌ {A = ℕ} 0 1 = (let u : true ≡ false = rw t at e in cc) in absurd (omega arith))
 
-module _ (k : Kind) (Past : k.Number → Type 0) (over : (b : k.Number) (i : ℕ) → k.fits b i ≡ false → Past (k.plus b i))
-    (within : (b : k.Number) (i : ℕ) → k.fits b i ≡ true → Past (k.plus b i) → ⊥) where
-  past_member : (s : NumberSet k.Number) → any_past (k.fits s.base) (positions s.words s.count) ≡ true
-      → (m : k.Number) × Memᴰ m (members k s) × Past m
+module _ {N : Type 0} (k : Kind N) (Past : N → Type 0) (over : (b : N) (i : ℕ) → k.fits b i ≡ false → Past (k.plus b i))
+    (within : (b : N) (i : ℕ) → k.fits b i ≡ true → Past (k.plus b i) → ⊥) where
+  past_member : (s : NumberSet N) → any_past (k.fits s.base) (positions s.words s.count) ≡ true
+      → (m : N) × Memᴰ m (members k s) × Past m
   past_member s e =
       let p = any_past_lem (k.fits s.base) (positions s.words s.count) e in
       (k.plus s.base p.0, Memᴰ.map (k.plus s.base) p.1, over s.base p.0 p.2)
 
-  no_member : (s : NumberSet k.Number) → any_past (k.fits s.base) (positions s.words s.count) ≡ false
-      → (m : k.Number) × Memᴰ m (members k s) × Past m → ⊥
+  no_member : (s : NumberSet N) → any_past (k.fits s.base) (positions s.words s.count) ≡ false
+      → (m : N) × Memᴰ m (members k s) × Past m → ⊥
   no_member s e x =
       let p = Memᴰ.of_map (k.plus s.base) (positions s.words s.count) x.1 in
       within s.base p.0 (none_past (k.fits s.base) (positions s.words s.count) e p.0 p.1) (subst Past (sym p.2) x.2)
 
-  pub walk_exactly : (s : NumberSet k.Number) (out : List k.Number) → Exactly (verdict (walk_set k s (length out))) (walk_rows k Past s out)
+  pub walk_exactly : (s : NumberSet N) (out : List N) → Exactly (verdict (walk_set k s (length out))) (walk_rows k Past s out)
   walk_exactly s out =
       asks_less verdict refl 256 s.count
       (λ a.
@@ -132,14 +132,14 @@ fragment_within b i e h = let k : b + i < 2 ^ 32 = ltb-true (b + i) (2 ^ 32) e i
 
 -- ---- the calls
 
-module _ (k : Kind) where
-  pub number_read : {R : Type 0} (said : R → Outcome k.Number) → ReadNumber k said
+module _ {N : Type 0} (k : Kind N) where
+  pub number_read : {R : Type 0} (said : R → Outcome N) → ReadNumber k said
   number_read said o s r e = rw e (read_number_exactly k o s)
 
   pub set_measured : MeasureSet k
   set_measured s r e = rw e (measure_exactly k s)
 
-module _ (k : Kind) (law : Lawful k) where
+module _ {N : Type 0} (k : Kind N) (law : Lawful k) where
   pub number_written : WriteNumber k
   number_written o n out after r w =
       record {
@@ -163,9 +163,9 @@ module _ {A R : Type 0} (answer : Outcome A → R) (number : R → ℕ) (same : 
     λ n z. h ∙ ap answer (by_number x n (ap numbered (sym (same x)) ∙ ap (λ (y : R). numbered (number y)) (sym h) ∙ z)),
   )
 
-module _ (k : Kind) {R : Type 0} where
-  pub set_read : (answer : Outcome (Taken k.Number) → R) (number : R → ℕ) → ((x : Outcome (Taken k.Number)) → number (answer x) ≡ refusal x) → ReadSet k answer number
+module _ {N : Type 0} (k : Kind N) {R : Type 0} where
+  pub set_read : (answer : Outcome (Taken N) → R) (number : R → ℕ) → ((x : Outcome (Taken N)) → number (answer x) ≡ refusal x) → ReadSet k answer number
   set_read answer number same o s = held answer number same (read_set k o s) (read_set_rows k o s) refl (read_set_exactly k o s)
 
-  pub set_made : (answer : Outcome (NumberSet k.Number) → R) (number : R → ℕ) → ((x : Outcome (NumberSet k.Number)) → number (answer x) ≡ refusal x) → MakeSet k answer number
+  pub set_made : (answer : Outcome (NumberSet N) → R) (number : R → ℕ) → ((x : Outcome (NumberSet N)) → number (answer x) ≡ refusal x) → MakeSet k answer number
   set_made answer number same base xs = held answer number same (make_set k base xs) (make_set_rows k xs) refl (make_exactly k base xs)

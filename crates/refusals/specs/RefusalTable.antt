@@ -70,42 +70,42 @@ abbrev pub Alone : {A R : Type 0} → (Outcome A → R) → (R → ℕ) → R �
 Alone answer refusal r = (n : ℕ) → numbered (refusal r) ≡ refused n → r ≡ answer (refused n)
 
 -- A number read: its bytes end early
-abbrev pub read_number_rows : Kind → List ℕ → List Row
+abbrev pub read_number_rows : {N : Type 0} → Kind N → List ℕ → List Row
 read_number_rows k s = row 1 (length s < k.size) ∷ []
 
-abbrev pub ReadNumber : (k : Kind) {R : Type 0} → (R → Outcome k.Number) → Type 0
+abbrev pub ReadNumber : {N : Type 0} (k : Kind N) {R : Type 0} → (R → Outcome N) → Type 0
 ReadNumber k {R} said = (o : ByteOrder) (s : List ℕ) (r : R) → said r ≡ read_number k o s → Exactly (verdict (said r)) (read_number_rows k s)
 
 -- A number written
-abbrev pub write_number_rows : (k : Kind) → ByteOrder → k.Number → List ℕ → List Row
+abbrev pub write_number_rows : {N : Type 0} (k : Kind N) → ByteOrder → N → List ℕ → List Row
 write_number_rows k o n out = shorter out (k.number_bytes o n) ∷ []
 
-abbrev pub WriteNumber : Kind → Type 0
-WriteNumber k = (o : ByteOrder) (n : k.Number) (out after : List ℕ) (r : Written) → Writes k o n out r after
+abbrev pub WriteNumber : {N : Type 0} → Kind N → Type 0
+WriteNumber k = (o : ByteOrder) (n : N) (out after : List ℕ) (r : Written) → Writes k o n out r after
     → Refuses (verdict (written_said r)) (write_number_rows k o n out) (after ≡ out)
 
 -- "Set reading: 1 for base or count, 2, 1 for words"; 1: "set bytes end early", 2: "bit count above 256"
-abbrev pub read_set_rows : Kind → ByteOrder → List ℕ → List Row
+abbrev pub read_set_rows : {N : Type 0} → Kind N → ByteOrder → List ℕ → List Row
 read_set_rows k o s =
     row 1 (length s < k.size + 4)
     ∷ row 2 (256 < word_at o s k.size)
     ∷ row 1 (length s < set_length k.size (word_at o s k.size))
     ∷ []
 
-abbrev pub ReadSet : (k : Kind) {R : Type 0} → (Outcome (Taken k.Number) → R) → (R → ℕ) → Type 0
+abbrev pub ReadSet : {N : Type 0} (k : Kind N) {R : Type 0} → (Outcome (Taken N) → R) → (R → ℕ) → Type 0
 ReadSet k {R} answer refusal = (o : ByteOrder) (s : List ℕ) (r : R) → r ≡ answer (read_set k o s)
     → Exactly (numbered (refusal r)) (read_set_rows k o s) × Alone answer refusal r
 
 -- "A set walked: 2, 4, 3"; 4: "a member past its type in a set walked (added)"
-abbrev pub walk_rows : (k : Kind) → (k.Number → Type 0) → NumberSet k.Number → List k.Number → List Row
+abbrev pub walk_rows : {N : Type 0} (k : Kind N) → (N → Type 0) → NumberSet N → List N → List Row
 walk_rows k Past s out =
     row 2 (256 < s.count)
-    ∷ row 4 ((m : k.Number) × Memᴰ m (members k s) × Past m)
+    ∷ row 4 ((m : N) × Memᴰ m (members k s) × Past m)
     ∷ shorter out (members k s)
     ∷ []
 
-abbrev pub WalkSet : (k : Kind) → (k.Number → Type 0) → Type 0
-WalkSet k Past = (s : NumberSet k.Number) (up : Bool) (out after : List k.Number) (r : Walked) → Walks k s up out r after
+abbrev pub WalkSet : {N : Type 0} (k : Kind N) → (N → Type 0) → Type 0
+WalkSet k Past = (s : NumberSet N) (up : Bool) (out after : List N) (r : Walked) → Walks k s up out r after
     → Refuses (verdict (walked_said r)) (walk_rows k Past s out) (after ≡ out)
 
 abbrev pub PastSequence : ℤ → Type 0
@@ -115,29 +115,29 @@ abbrev pub PastFragment : ℕ → Type 0
 PastFragment m = 2 ^ 32 ≤ m
 
 -- "written: 2, 3"
-abbrev pub write_set_rows : (k : Kind) → ByteOrder → NumberSet k.Number → List ℕ → List Row
+abbrev pub write_set_rows : {N : Type 0} (k : Kind N) → ByteOrder → NumberSet N → List ℕ → List Row
 write_set_rows k o s out = row 2 (256 < s.count) ∷ shorter out (set_bytes k o s) ∷ []
 
-abbrev pub WriteSet : Kind → Type 0
-WriteSet k = (o : ByteOrder) (s : NumberSet k.Number) (out after : List ℕ) (r : Written) → WritesSet k o s out r after
+abbrev pub WriteSet : {N : Type 0} → Kind N → Type 0
+WriteSet k = (o : ByteOrder) (s : NumberSet N) (out after : List ℕ) (r : Written) → WritesSet k o s out r after
     → Refuses (verdict (written_said r)) (write_set_rows k o s out) (after ≡ out)
 
 -- "measured: 2"
-abbrev pub measure_set_rows : (k : Kind) → NumberSet k.Number → List Row
+abbrev pub measure_set_rows : {N : Type 0} (k : Kind N) → NumberSet N → List Row
 measure_set_rows k s = row 2 (256 < s.count) ∷ []
 
-abbrev pub MeasureSet : Kind → Type 0
-MeasureSet k = (s : NumberSet k.Number) (r : Measured) → measured_said r ≡ measure_set k.size s.count → Exactly (verdict (measured_said r)) (measure_set_rows k s)
+abbrev pub MeasureSet : {N : Type 0} → Kind N → Type 0
+MeasureSet k = (s : NumberSet N) (r : Measured) → measured_said r ≡ measure_set k.size s.count → Exactly (verdict (measured_said r)) (measure_set_rows k s)
 
 -- "Making: 15"; 15: "list not strictly rising (added)"
-abbrev pub StrictlyRising : (k : Kind) → List k.Number → Type 0
+abbrev pub StrictlyRising : {N : Type 0} (k : Kind N) → List N → Type 0
 StrictlyRising k xs = (i : ℕ) → suc i < length xs → k.below (get_or xs i k.nought) (get_or xs (suc i) k.nought) ≡ true
 
-abbrev pub make_set_rows : (k : Kind) → List k.Number → List Row
+abbrev pub make_set_rows : {N : Type 0} (k : Kind N) → List N → List Row
 make_set_rows k xs = row 15 (StrictlyRising k xs → ⊥) ∷ []
 
-abbrev pub MakeSet : (k : Kind) {R : Type 0} → (Outcome (NumberSet k.Number) → R) → (R → ℕ) → Type 0
-MakeSet k {R} answer refusal = (base : k.Number) (xs : List k.Number) (r : R) → r ≡ answer (make_set k base xs)
+abbrev pub MakeSet : {N : Type 0} (k : Kind N) {R : Type 0} → (Outcome (NumberSet N) → R) → (R → ℕ) → Type 0
+MakeSet k {R} answer refusal = (base : N) (xs : List N) (r : R) → r ≡ answer (make_set k base xs)
     → Exactly (numbered (refusal r)) (make_set_rows k xs) × Alone answer refusal r
 
 -- `number_of` (module number) gives 0 for a number that row 4 names, `natural` 0 for a negative one; neither has a refusal, nor has `of_bits`.
@@ -241,14 +241,14 @@ pub record Order : Type 1 where
   pub fragments : (a : Assembler) (area : List ℕ) (number : ℤ) (fragment_size D k n : ℕ)
       → row_numbers (fragment_rows a area number fragment_size D k n) ≡ 13 ∷ 4 ∷ 6 ∷ 7 ∷ 8 ∷ 9 ∷ 10 ∷ 11 ∷ 12 ∷ []
   -- "Set reading: 1 for base or count, 2, 1 for words"
-  pub reading : (k : Kind) (o : ByteOrder) (s : List ℕ) → row_numbers (read_set_rows k o s) ≡ 1 ∷ 2 ∷ 1 ∷ []
+  pub reading : {N : Type 0} (k : Kind N) (o : ByteOrder) (s : List ℕ) → row_numbers (read_set_rows k o s) ≡ 1 ∷ 2 ∷ 1 ∷ []
   -- "A set walked: 2, 4, 3; written: 2, 3; measured: 2"
-  pub walking : (k : Kind) (Past : k.Number → Type 0) (s : NumberSet k.Number) (out : List k.Number) → row_numbers (walk_rows k Past s out) ≡ 2 ∷ 4 ∷ 3 ∷ []
-  pub writing : (k : Kind) (o : ByteOrder) (s : NumberSet k.Number) (out : List ℕ) → row_numbers (write_set_rows k o s out) ≡ 2 ∷ 3 ∷ []
-  pub measuring : (k : Kind) (s : NumberSet k.Number) → row_numbers (measure_set_rows k s) ≡ 2 ∷ []
+  pub walking : {N : Type 0} (k : Kind N) (Past : N → Type 0) (s : NumberSet N) (out : List N) → row_numbers (walk_rows k Past s out) ≡ 2 ∷ 4 ∷ 3 ∷ []
+  pub writing : {N : Type 0} (k : Kind N) (o : ByteOrder) (s : NumberSet N) (out : List ℕ) → row_numbers (write_set_rows k o s out) ≡ 2 ∷ 3 ∷ []
+  pub measuring : {N : Type 0} (k : Kind N) (s : NumberSet N) → row_numbers (measure_set_rows k s) ≡ 2 ∷ []
   -- "Missing numbers: 4, then 3. Making: 15"
   pub missing : (start end : ℤ) (s : Proxy) (out : List ℤ) → row_numbers (missing_rows start end s out) ≡ 4 ∷ 3 ∷ []
-  pub making : (k : Kind) (xs : List k.Number) → row_numbers (make_set_rows k xs) ≡ 15 ∷ []
+  pub making : {N : Type 0} (k : Kind N) (xs : List N) → row_numbers (make_set_rows k xs) ≡ 15 ∷ []
 
 -- a field for each call, named as the call is
 pub record RefusalTable : Type 1 where

@@ -11,8 +11,9 @@ use mir.Syntax.{w64}
 use mir.Val.{SFits, Fits, of_z, to_z}
 use mir.Facts.{to_z-of_z}
 use borrow.Author.Tests.{lt-ltb, le-ltb, ltb-true, ltb-false, le-leb, leb-true}
-use Rattle.sequence_number.specs.Number.{top, is_number, nat_of, number_of}
-use Rattle.outcome.proofs.Split.{split_lt}
+use Rattle.std.specs.Prelude.{Option, Some, None, unwrap_or, option_map}
+use Rattle.sequence_number.specs.Number.{top, is_number, nat_of, number_of, taken}
+use Rattle.outcome.proofs.Split.{split, split_lt, clash}
 
 pub number_low : (n : ℤ) → lt_z n (pos 1) ≡ true → 0 ≡ number_of n
 number_low (pos n) h = rw (le-ltb 0 n (omega (arith, ltb-true n 1 h)))
@@ -48,6 +49,24 @@ number_is (pos n) k e =
 pub number_passed : (n : ℤ) (k : ℕ) → SFits w64 n → k ≡ number_of (to_z w64 (of_z w64 n))
     → ((k ≡ 0) × (is_number n ≡ false)) ⊎ ((0 < k) × (k < top) × (is_number n ≡ true) × (k ≡ nat_of n))
 number_passed n k f e = number_is n k (rw (to_z-of_z f) at e)
+
+-- what is said of the number where it is handed out, and where nothing is
+pub some_taken : (n : ℤ) (k : ℕ) → Some k ≡ taken n → (0 < k) × (k < top) × (is_number n ≡ true) × (k ≡ nat_of n) × (k ≡ number_of n)
+some_taken n k e = split (is_number n) (λ h. go (number_is n (number_of n) refl) h (rw h at e)) (λ h. absurd (none_some (rw h at e)))
+  where
+    none_some : Some k ≡ None → ⊥
+    none_some z = let one : ◌≡◌ {A = ℕ} 1 0 = ap (λ (o : Option ℕ). unwrap_or (option_map (λ x. 1) o) 0) z in omega arith
+
+    go : ((number_of n ≡ 0) × (is_number n ≡ false)) ⊎ ((0 < number_of n) × (number_of n < top) × (is_number n ≡ true) × (number_of n ≡ nat_of n))
+        → is_number n ≡ true → Some k ≡ Some (nat_of n) → (0 < k) × (k < top) × (is_number n ≡ true) × (k ≡ nat_of n) × (k ≡ number_of n)
+    go (inl x) h z = absurd (clash (is_number n) h x.1)
+    go (inr x) h z = let m : k ≡ nat_of n = ap (λ (o : Option ℕ). unwrap_or o 0) z in (omega (arith, x), omega (arith, x), h, m, omega (arith, x))
+
+pub none_taken : (n : ℤ) → None ≡ taken n → (is_number n ≡ false) × (0 ≡ number_of n)
+none_taken n e = split (is_number n) (λ h. absurd (some_none (rw h at e))) (λ h. (h, rw h refl))
+  where
+    some_none : ◌≡◌ {A = Option ℕ} None (Some (nat_of n)) → ⊥
+    some_none z = let one : ◌≡◌ {A = ℕ} 0 1 = ap (λ (o : Option ℕ). unwrap_or (option_map (λ x. 1) o) 0) z in omega arith
 
 pub nat_neg : (n : ℤ) → lt_z n (pos 0) ≡ true → 0 ≡ nat_of n
 nat_neg (pos n) h = omega (arith, ltb-true n 0 h)

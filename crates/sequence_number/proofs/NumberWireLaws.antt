@@ -12,23 +12,24 @@ use Rattle.outcome.specs.Lent.{over}
 use Rattle.sequence_number.specs.Kind.{Kind}
 use Rattle.sequence_number.specs.NumberWire.{read_number, Writes}
 use Rattle.sequence_number.specs.declared.ByteOrder.{ByteOrder}
-use Rattle.sequence_number.specs.declared.wire.Written.TheVariants as written
+use Rattle.std.specs.Prelude.{Ok, Err}
+use Rattle.outcome.specs.declared.Refusal.TheVariants.{EndsEarly, ShortOutput}
 use Rattle.outcome.proofs.LentLaws.{sets_over}
-use Rattle.sequence_number.proofs.KindLaws.{Lawful}
+use Rattle.sequence_number.specs.Lawful.{Lawful, ReadsBack}
 
-module _ (k : Kind) (o : ByteOrder) (s : List ℕ) where
+module _ {N : Type 0} (k : Kind N) (o : ByteOrder) (s : List ℕ) where
   pub read_short : length s < k.size → refused 1 ≡ read_number k o s
   read_short h = rw (lt-ltb (length s) k.size h)
 
-  pub read_done : k.size ≤ length s → (n : k.Number) → n ≡ k.number_at o s 0 → done n ≡ read_number k o s
+  pub read_done : k.size ≤ length s → (n : N) → n ≡ k.number_at o s 0 → done n ≡ read_number k o s
   read_done h n e = rw (le-ltb (length s) k.size h) (ap done e)
 
-module _ (k : Kind) (law : Lawful k) (o : ByteOrder) (n : k.Number) (before : List ℕ) where
-  pub write_short : length before < k.size → Writes k o n before (written.Refused 3) before
+module _ {N : Type 0} (k : Kind N) (law : Lawful k) (o : ByteOrder) (n : N) (before : List ℕ) where
+  pub write_short : length before < k.size → Writes k o n before (Err ShortOutput) before
   write_short h = record { answer = rw (lt-ltb (length before) k.size h); bytes = rw (lt-ltb (length before) k.size h) }
 
   pub write_done : (after : List ℕ) → k.size ≤ length before → after ≡ sets before 0 (k.number_bytes o n)
-      → Writes k o n before (written.Wrote k.size) after
+      → Writes k o n before (Ok k.size) after
   write_done after h e =
       let l = law.length_number o n in
       record {
@@ -37,8 +38,8 @@ module _ (k : Kind) (law : Lawful k) (o : ByteOrder) (n : k.Number) (before : Li
       }
 
   -- reading what was written gives the number back
-  pub read_written : k.size ≤ length before → law.Valid n → read_number k o (over (k.number_bytes o n) before) ≡ done n
-  read_written h v =
+  pub read_written : (Valid : N → Type 0) → ReadsBack k Valid → k.size ≤ length before → Valid n → read_number k o (over (k.number_bytes o n) before) ≡ done n
+  read_written Valid back h v =
       let l = law.length_number o n in
       let m : k.size ≤ length (over (k.number_bytes o n) before) = omega (arith, length-append (k.number_bytes o n) (drop (length (k.number_bytes o n)) before)) in
-      rw (le-ltb (length (over (k.number_bytes o n) before)) k.size m) (ap done (law.number_back o n (drop (length (k.number_bytes o n)) before) v))
+      rw (le-ltb (length (over (k.number_bytes o n) before)) k.size m) (ap done (back o n (drop (length (k.number_bytes o n)) before) v))

@@ -9,10 +9,6 @@ use Rattle.sequence_number.specs.Word.{word_at, word_bytes}
 use Rattle.sequence_number.specs.declared.ByteOrder.{ByteOrder}
 use Rattle.sequence_number.specs.declared.ByteOrder.TheVariants.{Big, Little}
 
-pub length_bytes : (o : ByteOrder) (v : ℕ) → length (word_bytes o v) ≡ 4
-length_bytes Big v = refl
-length_bytes Little v = refl
-
 -- the word at the front of its own bytes, whatever follows
 pub word_bytes_lem : (o : ByteOrder) (v : ℕ) (rest : List ℕ) → v < 2 ^ 32 → word_at o (word_bytes o v ++ rest) 0 ≡ v
 word_bytes_lem Big v rest h = omega arith

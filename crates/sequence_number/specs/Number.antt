@@ -1,5 +1,5 @@
 -- Which sequence numbers the receiver takes, and how a signed number becomes one of the core's. Assumes nothing.
-use Rattle.std.specs.Prelude.{ℕ, Bool, false, cond, ◌&&◌, ltb, ℤ, pos, negsuc}
+use Rattle.std.specs.Prelude.{ℕ, Bool, false, cond, ◌&&◌, ltb, ℤ, pos, negsuc, Option, Some, None}
 
 -- 2^63 - 1, the greatest sequence number: it has no successor, so it is never received, marked or tracked
 abbrev pub top : ℕ
@@ -18,3 +18,7 @@ nat_of (negsuc n) = 0
 -- the number that a call takes, or 0 for one that it refuses
 abbrev pub number_of : ℤ → ℕ
 number_of n = cond (is_number n) (nat_of n) 0
+
+-- the same, with nothing for one that it refuses
+abbrev pub taken : ℤ → Option ℕ
+taken n = cond (is_number n) (Some (nat_of n)) None
