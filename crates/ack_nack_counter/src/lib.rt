@@ -4,26 +4,23 @@
 ghost use Rattle.std.specs.Prelude.{◌≡◌};
 ghost use Rattle.ack_nack_counter.specs.Counter.{next_count, fresh_counter, handed_out};
 
-#[derive(Drop)]
+#[derive(Clone, Copy, Debug, PartialEq, Eq)]
 pub struct AckNackCounter {
     pub count: i32,
 }
 
 // What is handed out, and the counter after it.
-#[derive(Drop)]
+#[derive(Clone, Copy, Debug, PartialEq, Eq)]
 pub struct HandedOut {
     pub count: i32,
     pub counter: AckNackCounter,
 }
 
-// The count after n: a wrapping add of 1, which the language does not have for i32.
+// The count after n: "steps by wrapping add on purpose".
 fn next_count(n: i32) -> i32
     ensures { result ≡ next_count n }
 {
-    if n == 2147483647 {
-        return -2147483648;
-    }
-    n + 1
+    n.wrapping_add(1)
 }
 
 impl AckNackCounter {
@@ -37,11 +34,11 @@ impl AckNackCounter {
     pub fn next_ack_nack_sequence_number(self) -> HandedOut
         ensures { result ≡ handed_out self }
     {
-        let n = self.count;
-        let next = next_count(n);
         HandedOut {
-            count: n,
-            counter: AckNackCounter { count: next },
+            count: self.count,
+            counter: AckNackCounter {
+                count: next_count(self.count),
+            },
         }
     }
 }
@@ -59,8 +56,5 @@ pub fn next_ack_nack_count(count: &mut i32) -> i32
 pub fn next_ack_nack(counter: &mut AckNackCounter) -> i32
     ensures { (result ≡ counter.old.count) × (counter.new ≡ (handed_out counter.old).counter) }
 {
-    let n = counter.count;
-    let next = next_count(n);
-    counter.count = next;
-    n
+    next_ack_nack_count(&mut counter.count)
 }

@@ -65,7 +65,7 @@ sequence_written o l l' l'' at u n p q r =
     ∙ ap (λ (v : ℕ). sets l at (word_bytes o (v / 4294967296) ++ word_bytes o (v % 4294967296))) p
 
 -- a sequence number that was written is read back
-pub sequence_back : (o : ByteOrder) (n : ℤ) (rest : List ℕ) → SFits w64 n → sequence_at o (sequence_bytes o n ++ rest) 0 ≡ n
+pub sequence_back : ReadsBack sequence_number (SFits w64)
 sequence_back o n rest f =
     let u : ℕ = of_z w64 n in
     let hi : List ℕ = word_bytes o (u / 4294967296) in
@@ -81,8 +81,6 @@ sequence_back o n rest f =
     ∙ ap (to_z w64) whole
     ∙ to_z-of_z {w = w64} {z = n} f
 
-pub sequence_back_lawful : ReadsBack sequence_number (SFits w64)
-sequence_back_lawful = sequence_back
-
-pub fragment_back_lawful : ReadsBack fragment_number (Fits w32)
-fragment_back_lawful o n rest f = word_bytes_lem o n rest f.fits
+-- and so is a fragment number
+pub fragment_back : ReadsBack fragment_number (Fits w32)
+fragment_back o n rest f = word_bytes_lem o n rest f.fits
