@@ -7,9 +7,8 @@ ghost use Rattle.assembly_record.specs.Words.{assembler_of};
 ghost use Rattle.assembly_record.specs.Rules.{GoodAssembler};
 ghost use Rattle.drucenal.specs.AssemblerExports.{happened, SetsUpAssemblerOut, TakesFragmentOut, ViewsOut, CleansAssemblerOut, ListsFragmentsOut};
 
-use fragment_assembler::clean::Cleaned;
-use fragment_assembler::fragment::Answer;
-use outcome::{Listing, SetUp};
+use crate::numbers::{give, number};
+use fragment_assembler::fragment::{Answer, DataFrag, new_datafrag};
 
 pub fn drucenal_assembler_set_up(
     words: &mut [u64],
@@ -19,10 +18,12 @@ pub fn drucenal_assembler_set_up(
 ) -> u32
     ensures { SetsUpAssemblerOut words.old fragment_size reliable place_size result words.new }
 {
-    match fragment_assembler::set_up::set_up(words, fragment_size, reliable, place_size) {
-        SetUp::Refused(n) => n as u32,
-        SetUp::Ready => 0,
-    }
+    number(fragment_assembler::set_up::set_up(
+        words,
+        fragment_size,
+        reliable,
+        place_size,
+    ))
 }
 
 pub fn drucenal_assembler_new_datafrag(
@@ -43,38 +44,23 @@ pub fn drucenal_assembler_new_datafrag(
     requires { GoodAssembler words.old }
     ensures { TakesFragmentOut words.old area.old (fragment_with time (number_of number) fragment_size data_size start count payload.now) (happened what.old of.old place.old length.old) result (happened what.new of.new place.new length.new) words.new area.new }
 {
-    let mut kind: u32 = 0;
-    let mut whose: u64 = 0;
-    let mut at: usize = 0;
-    let mut long: u32 = 0;
-    match fragment_assembler::fragment::new_datafrag(
-        words,
-        area,
-        time,
-        number,
+    let frag = DataFrag {
         fragment_size,
         data_size,
         start,
         count,
         payload,
-    ) {
-        Answer::Refused(n) => return n as u32,
-        Answer::Kept => {}
-        Answer::Returned {
+    };
+    let (kind, whose, at, long) = match new_datafrag(words, area, time, number, frag) {
+        Err(refusal) => return refusal.into(),
+        Ok(Answer::Kept) => (0, 0, 0, 0),
+        Ok(Answer::Returned {
             number: n,
             place: i,
             length: d,
-        } => {
-            kind = 1;
-            whose = n;
-            at = i;
-            long = d;
-        }
-        Answer::Dropped(n) => {
-            kind = 2;
-            whose = n;
-        }
-    }
+        }) => (1, n, i, d),
+        Ok(Answer::Dropped(n)) => (2, n, 0, 0),
+    };
     *what = kind;
     *of = whose;
     *place = at;
@@ -106,13 +92,10 @@ pub fn drucenal_assembler_garbage_collect_before(
     requires { GoodAssembler words.old }
     ensures { CleansAssemblerOut words.old expire_before out.old listed.old result listed.new words.new out.new }
 {
-    match fragment_assembler::clean::garbage_collect_before(words, expire_before, out) {
-        Cleaned::Refused(n) => n as u32,
-        Cleaned::Dropped(n) => {
-            *listed = n;
-            0
-        }
-    }
+    give(
+        fragment_assembler::clean::garbage_collect_before(words, expire_before, out),
+        listed,
+    )
 }
 
 pub fn drucenal_assembler_missing_frags_for(
@@ -124,13 +107,10 @@ pub fn drucenal_assembler_missing_frags_for(
     requires { GoodAssembler words.now }
     ensures { ListsFragmentsOut words.now (number_of number) out.old listed.old result listed.new out.new }
 {
-    match fragment_assembler::missing::missing_frags_for(words, number, out) {
-        Listing::Refused(n) => n as u32,
-        Listing::Listed(n) => {
-            *listed = n;
-            0
-        }
-    }
+    give(
+        fragment_assembler::missing::missing_frags_for(words, number, out),
+        listed,
+    )
 }
 
 pub fn drucenal_assembler_is_partially_received(words: &[u64], number: i64) -> bool

@@ -1,11 +1,13 @@
-// One number, read and written.
+// One number of either kind, read and written.
 ghost use Rattle.std.specs.Prelude.{◌≡◌, length};
-ghost use Rattle.sequence_number.specs.Kind.{sequence_number, fragment_number};
+ghost use Rattle.outcome.specs.Outcome.{refusal};
+ghost use Rattle.outcome.specs.Refusal.{said};
 ghost use Rattle.sequence_number.specs.NumberWire.{read_number, write_number};
 ghost use Rattle.drucenal.specs.Exports.{order_of, Gives, Lends};
 
+use outcome::Refusal;
 use sequence_number::ByteOrder;
-use sequence_number::wire::{FragmentNumberRead, SequenceNumberRead, Written};
+use sequence_number::kind::Number;
 
 // big: the most significant byte of a word first.
 pub(crate) fn order_of(big: bool) -> ByteOrder
@@ -17,44 +19,37 @@ pub(crate) fn order_of(big: bool) -> ByteOrder
     ByteOrder::Little
 }
 
-pub fn drucenal_read_sequence_number(big: bool, bytes: &[u8], number: &mut i64) -> u32
-    ensures { Gives (read_number sequence_number (order_of big) bytes.now) number.old result number.new }
+// A refusal's number, or 0.
+pub(crate) fn number<T: Drop>(found: Result<T, Refusal>) -> u32
+    ensures { result ≡ refusal (said found) }
 {
-    match sequence_number::wire::read_sequence_number(order_of(big), bytes) {
-        SequenceNumberRead::Refused(n) => n as u32,
-        SequenceNumberRead::Number(x) => {
-            *number = x;
+    match found {
+        Ok(_) => 0,
+        Err(refusal) => refusal.into(),
+    }
+}
+
+// A refusal's number, or 0 and what was found behind the reference.
+pub(crate) fn give<T: Drop>(found: Result<T, Refusal>, to: &mut T) -> u32
+    ensures { Gives (said found) to.old result to.new }
+{
+    match found {
+        Ok(value) => {
+            *to = value;
             0
         }
+        Err(refusal) => refusal.into(),
     }
 }
 
-pub fn drucenal_write_sequence_number(big: bool, number: i64, out: &mut [u8]) -> u32
-    ensures { Lends (write_number sequence_number (length out.old)) (sequence_number.number_bytes (order_of big) number) out.old result out.new }
+pub fn drucenal_read_number<N: Number>(big: bool, bytes: &[u8], number: &mut N) -> u32
+    ensures { Gives (read_number N.kind (order_of big) bytes.now) number.old result number.new }
 {
-    match sequence_number::wire::write_sequence_number(order_of(big), number, out) {
-        Written::Refused(n) => n as u32,
-        Written::Wrote(_) => 0,
-    }
+    give(sequence_number::wire::read_number(order_of(big), bytes), number)
 }
 
-pub fn drucenal_read_fragment_number(big: bool, bytes: &[u8], number: &mut u32) -> u32
-    ensures { Gives (read_number fragment_number (order_of big) bytes.now) number.old result number.new }
+pub fn drucenal_write_number<N: Number>(big: bool, n: N, out: &mut [u8]) -> u32
+    ensures { Lends (write_number N.kind (length out.old)) (N.kind.number_bytes (order_of big) n) out.old result out.new }
 {
-    match sequence_number::wire::read_fragment_number(order_of(big), bytes) {
-        FragmentNumberRead::Refused(n) => n as u32,
-        FragmentNumberRead::Number(x) => {
-            *number = x;
-            0
-        }
-    }
-}
-
-pub fn drucenal_write_fragment_number(big: bool, number: u32, out: &mut [u8]) -> u32
-    ensures { Lends (write_number fragment_number (length out.old)) (fragment_number.number_bytes (order_of big) number) out.old result out.new }
-{
-    match sequence_number::wire::write_fragment_number(order_of(big), number, out) {
-        Written::Refused(n) => n as u32,
-        Written::Wrote(_) => 0,
-    }
+    number(sequence_number::wire::write_number(order_of(big), n, out))
 }

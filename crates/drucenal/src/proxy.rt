@@ -12,36 +12,34 @@ ghost use Rattle.writer_proxy.specs.Missing.{missing_listed};
 ghost use Rattle.ack_nack_counter.specs.Counter.{next_count};
 ghost use Rattle.drucenal.specs.ProxyExports.{old_shown, new_shown, Replies, ListsMissing, status_number, status_time, last_number, last_time};
 
-use outcome::{Listing, SetUp};
-use proxy_steps::Report;
-use writer_proxy::query::{LastReceived, Status};
+use crate::numbers::{give, number};
+use outcome::Refusal;
+use proxy_record::Mark;
+use proxy_steps::Forced;
 
 pub fn drucenal_proxy_set_up(words: &mut [u64]) -> u32
     ensures value { (result ≡ refusal (set_up_proxy words.old).answer) × (words.new ≡ (set_up_proxy words.old).words) }
     ensures good_proxy { proxy_size ≤ length words.old → GoodProxy (take proxy_size words.new) }
 {
-    match writer_proxy::set_up::set_up(words) {
-        SetUp::Refused(n) => n as u32,
-        SetUp::Ready => 0,
-    }
+    number(writer_proxy::set_up::set_up(words))
 }
 
 // What became of a call: its refusal, 0 where it has none, and the forced step behind the two references.
-fn tell(report: Report, old: &mut u64, new: &mut u64) -> u32
+fn tell(report: Result<Option<Forced>, Refusal>, old: &mut u64, new: &mut u64) -> u32
     ensures { (result ≡ refusal (report_said report)) × (old.new ≡ old_shown (report_said report) old.old) × (new.new ≡ new_shown (report_said report) new.old) }
 {
     match report {
-        Report::Refused(n) => n as u32,
-        Report::Done => {
+        Ok(None) => {
             *old = 0;
             *new = 0;
             0
         }
-        Report::Forced(a, b) => {
-            *old = a;
-            *new = b;
+        Ok(Some(step)) => {
+            *old = step.old;
+            *new = step.new;
             0
         }
+        Err(refusal) => refusal.into(),
     }
 }
 
@@ -119,9 +117,9 @@ pub fn drucenal_proxy_change_status(words: &[u64], number: i64, time: &mut u64) 
     ensures { (result ≡ status_number (status_of number (proxy_of words.now))) × (time.new ≡ status_time (status_of number (proxy_of words.now)) time.old) }
 {
     match writer_proxy::query::change_status(words, number) {
-        Status::Untracked => 0,
-        Status::NotAvailable => 1,
-        Status::Received(t) => {
+        None => 0,
+        Some(Mark::NotAvailable) => 1,
+        Some(Mark::Received(t)) => {
             *time = t;
             2
         }
@@ -134,8 +132,8 @@ pub fn drucenal_proxy_last_received(words: &[u64], time: &mut u64) -> u64
     ensures { (result ≡ last_number (last_received (proxy_of words.now))) × (time.new ≡ last_time (last_received (proxy_of words.now)) time.old) }
 {
     match writer_proxy::query::last_received(words) {
-        LastReceived::Nothing => 0,
-        LastReceived::Number(n, t) => {
+        None => 0,
+        Some((n, t)) => {
             *time = t;
             n
         }
@@ -152,13 +150,10 @@ pub fn drucenal_proxy_missing_seqnums(
     requires { GoodProxy words.now }
     ensures { ListsMissing (missing_listed start end (proxy_of words.now) out.old) listed.old result listed.new out.new }
 {
-    match writer_proxy::missing::missing_seqnums(words, start, end, out) {
-        Listing::Refused(n) => n as u32,
-        Listing::Listed(n) => {
-            *listed = n;
-            0
-        }
-    }
+    give(
+        writer_proxy::missing::missing_seqnums(words, start, end, out),
+        listed,
+    )
 }
 
 // The count that is handed out; the caller's own is moved on where it lies.

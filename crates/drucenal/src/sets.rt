@@ -1,242 +1,108 @@
-// Number sets of both widths: read, written, made, walked, measured. A set goes in and out by its parts.
-ghost use Rattle.std.specs.Prelude.{length};
-ghost use Rattle.sequence_number.specs.Kind.{sequence_number, fragment_number};
+// Number sets of either kind: read, written, made, walked, measured. A set goes in and out by its parts.
+ghost use Rattle.std.specs.Prelude.{◌≡◌, length};
 ghost use Rattle.number_set.specs.NumberSet.{members};
 ghost use Rattle.number_set.specs.SetWire.{read_set, write_set, set_bytes, measure_set};
 ghost use Rattle.number_set.specs.Make.{make_set};
 ghost use Rattle.number_set.specs.Walk.{walk_set, in_order};
 ghost use Rattle.drucenal.specs.Exports.{order_of, Gives, Lends, set_of, taken_of};
 
-use crate::numbers::order_of;
-use number_set::set::{FragmentNumberSet, Measured, SequenceNumberSet, Walked};
-use sequence_number::wire::Written;
+use crate::numbers::{give, order_of};
+use number_set::set::NumberSet;
+use sequence_number::kind::Number;
 
-pub fn drucenal_read_sequence_number_set(
+// A set's parts behind three references.
+fn put_parts<N: Number>(set: NumberSet<N>, base: &mut N, count: &mut u32, words: &mut [u32; 8])
+    ensures { set_of base.new count.new words.new ≡ set }
+{
+    *base = set.base;
+    *count = set.count;
+    *words = set.words;
+}
+
+pub fn drucenal_read_number_set<N: Number>(
     big: bool,
     bytes: &[u8],
-    base: &mut i64,
+    base: &mut N,
     count: &mut u32,
     words: &mut [u32; 8],
     taken: &mut usize,
 ) -> u32
-    ensures { Gives (read_set sequence_number (order_of big) bytes.now) (taken_of base.old count.old words.old taken.old) result (taken_of base.new count.new words.new taken.new) }
+    ensures { Gives (read_set N.kind (order_of big) bytes.now) (taken_of base.old count.old words.old taken.old) result (taken_of base.new count.new words.new taken.new) }
 {
-    let read = SequenceNumberSet::read_from(order_of(big), bytes);
-    let refusal = read.refusal;
-    if refusal != 0 {
-        return refusal as u32;
+    match NumberSet::<N>::read_from(order_of(big), bytes) {
+        Ok(read) => {
+            put_parts(read.set, base, count, words);
+            *taken = read.taken;
+            0
+        }
+        Err(refusal) => refusal.into(),
     }
-    let set = read.set;
-    let low = set.base;
-    let bits = set.words;
-    *base = low;
-    *count = set.count;
-    *words = bits;
-    *taken = read.taken;
-    0
 }
 
-pub fn drucenal_write_sequence_number_set(
+pub fn drucenal_write_number_set<N: Number>(
     big: bool,
-    base: i64,
+    base: N,
     count: u32,
     words: &[u32; 8],
     out: &mut [u8],
     wrote: &mut usize,
 ) -> u32
-    ensures gives { Gives (write_set 8 count (length out.old)) wrote.old result wrote.new }
-    ensures lends { Lends (write_set 8 count (length out.old)) (set_bytes sequence_number (order_of big) (set_of base count words.now)) out.old result out.new }
+    ensures gives { Gives (write_set N.kind.size count (length out.old)) wrote.old result wrote.new }
+    ensures lends { Lends (write_set N.kind.size count (length out.old)) (set_bytes N.kind (order_of big) (set_of base count words.now)) out.old result out.new }
 {
-    let set = SequenceNumberSet {
+    let set = NumberSet {
         base,
         count,
         words: *words,
     };
-    match set.write_to(order_of(big), out) {
-        Written::Refused(n) => n as u32,
-        Written::Wrote(n) => {
-            *wrote = n;
-            0
-        }
-    }
+    give(set.write_to(order_of(big), out), wrote)
 }
 
-pub fn drucenal_make_sequence_number_set(
-    base: i64,
-    list: &[i64],
-    low: &mut i64,
+pub fn drucenal_make_number_set<N: Number>(
+    base: N,
+    list: &[N],
+    low: &mut N,
     count: &mut u32,
     words: &mut [u32; 8],
 ) -> u32
-    ensures { Gives (make_set sequence_number base list.now) (set_of low.old count.old words.old) result (set_of low.new count.new words.new) }
+    ensures { Gives (make_set N.kind base list.now) (set_of low.old count.old words.old) result (set_of low.new count.new words.new) }
 {
-    let made = SequenceNumberSet::from_base_and_set(base, list);
-    let refusal = made.refusal;
-    if refusal != 0 {
-        return refusal as u32;
+    match NumberSet::from_base_and_set(base, list) {
+        Ok(set) => {
+            put_parts(set, low, count, words);
+            0
+        }
+        Err(refusal) => refusal.into(),
     }
-    let set = made.set;
-    let made_at = set.base;
-    let bits = set.words;
-    *low = made_at;
-    *count = set.count;
-    *words = bits;
-    0
 }
 
-pub fn drucenal_walk_sequence_number_set(
+pub fn drucenal_walk_number_set<N: Number>(
     rising: bool,
-    base: i64,
+    base: N,
     count: u32,
     words: &[u32; 8],
-    out: &mut [i64],
+    out: &mut [N],
     listed: &mut usize,
 ) -> u32
-    ensures gives { Gives (walk_set sequence_number (set_of base count words.now) (length out.old)) listed.old result listed.new }
-    ensures lends { Lends (walk_set sequence_number (set_of base count words.now) (length out.old)) (in_order rising (members sequence_number (set_of base count words.now))) out.old result out.new }
+    ensures gives { Gives (walk_set N.kind (set_of base count words.now) (length out.old)) listed.old result listed.new }
+    ensures lends { Lends (walk_set N.kind (set_of base count words.now) (length out.old)) (in_order rising (members N.kind (set_of base count words.now))) out.old result out.new }
 {
-    let set = SequenceNumberSet {
+    let set = NumberSet {
         base,
         count,
         words: *words,
     };
-    match set.iter(rising, out) {
-        Walked::Refused(n) => n as u32,
-        Walked::Listed(n) => {
-            *listed = n;
-            0
-        }
-    }
+    give(set.iter(rising, out), listed)
 }
 
-pub fn drucenal_measure_sequence_number_set(count: u32, length: &mut usize) -> u32
-    ensures { Gives (measure_set 8 count) length.old result length.new }
+// A set with so many bits, whatever its base and words.
+pub fn drucenal_measure_number_set<N: Number>(count: u32, length: &mut usize) -> u32
+    ensures { Gives (measure_set N.kind.size count) length.old result length.new }
 {
-    let set = SequenceNumberSet {
-        base: 0,
+    let set = NumberSet {
+        base: N::LEAST,
         count,
-        words: [0u32; 8],
+        words: [0; 8],
     };
-    match set.len_serialized() {
-        Measured::Refused(n) => n as u32,
-        Measured::Bytes(n) => {
-            *length = n;
-            0
-        }
-    }
-}
-
-pub fn drucenal_read_fragment_number_set(
-    big: bool,
-    bytes: &[u8],
-    base: &mut u32,
-    count: &mut u32,
-    words: &mut [u32; 8],
-    taken: &mut usize,
-) -> u32
-    ensures { Gives (read_set fragment_number (order_of big) bytes.now) (taken_of base.old count.old words.old taken.old) result (taken_of base.new count.new words.new taken.new) }
-{
-    let read = FragmentNumberSet::read_from(order_of(big), bytes);
-    let refusal = read.refusal;
-    if refusal != 0 {
-        return refusal as u32;
-    }
-    let set = read.set;
-    let low = set.base;
-    let bits = set.words;
-    *base = low;
-    *count = set.count;
-    *words = bits;
-    *taken = read.taken;
-    0
-}
-
-pub fn drucenal_write_fragment_number_set(
-    big: bool,
-    base: u32,
-    count: u32,
-    words: &[u32; 8],
-    out: &mut [u8],
-    wrote: &mut usize,
-) -> u32
-    ensures gives { Gives (write_set 4 count (length out.old)) wrote.old result wrote.new }
-    ensures lends { Lends (write_set 4 count (length out.old)) (set_bytes fragment_number (order_of big) (set_of base count words.now)) out.old result out.new }
-{
-    let set = FragmentNumberSet {
-        base,
-        count,
-        words: *words,
-    };
-    match set.write_to(order_of(big), out) {
-        Written::Refused(n) => n as u32,
-        Written::Wrote(n) => {
-            *wrote = n;
-            0
-        }
-    }
-}
-
-pub fn drucenal_make_fragment_number_set(
-    base: u32,
-    list: &[u32],
-    low: &mut u32,
-    count: &mut u32,
-    words: &mut [u32; 8],
-) -> u32
-    ensures { Gives (make_set fragment_number base list.now) (set_of low.old count.old words.old) result (set_of low.new count.new words.new) }
-{
-    let made = FragmentNumberSet::from_base_and_set(base, list);
-    let refusal = made.refusal;
-    if refusal != 0 {
-        return refusal as u32;
-    }
-    let set = made.set;
-    let made_at = set.base;
-    let bits = set.words;
-    *low = made_at;
-    *count = set.count;
-    *words = bits;
-    0
-}
-
-pub fn drucenal_walk_fragment_number_set(
-    rising: bool,
-    base: u32,
-    count: u32,
-    words: &[u32; 8],
-    out: &mut [u32],
-    listed: &mut usize,
-) -> u32
-    ensures gives { Gives (walk_set fragment_number (set_of base count words.now) (length out.old)) listed.old result listed.new }
-    ensures lends { Lends (walk_set fragment_number (set_of base count words.now) (length out.old)) (in_order rising (members fragment_number (set_of base count words.now))) out.old result out.new }
-{
-    let set = FragmentNumberSet {
-        base,
-        count,
-        words: *words,
-    };
-    match set.iter(rising, out) {
-        Walked::Refused(n) => n as u32,
-        Walked::Listed(n) => {
-            *listed = n;
-            0
-        }
-    }
-}
-
-pub fn drucenal_measure_fragment_number_set(count: u32, length: &mut usize) -> u32
-    ensures { Gives (measure_set 4 count) length.old result length.new }
-{
-    let set = FragmentNumberSet {
-        base: 0,
-        count,
-        words: [0u32; 8],
-    };
-    match set.len_serialized() {
-        Measured::Refused(n) => n as u32,
-        Measured::Bytes(n) => {
-            *length = n;
-            0
-        }
-    }
+    give(set.len_serialized(), length)
 }

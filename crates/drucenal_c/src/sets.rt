@@ -18,7 +18,7 @@ pub extern "C" fn drucenal_read_sequence_number_set(
 ) -> u32
     ensures { Gives (read_set sequence_number (order_of big) bytes.now) (taken_of base.old count.old words.old taken.old) result (taken_of base.new count.new words.new taken.new) }
 {
-    drucenal::sets::drucenal_read_sequence_number_set(big, bytes, base, count, words, taken)
+    drucenal::sets::drucenal_read_number_set::<i64>(big, bytes, base, count, words, taken)
 }
 
 #[unsafe(no_mangle)]
@@ -33,7 +33,7 @@ pub extern "C" fn drucenal_write_sequence_number_set(
     ensures gives { Gives (write_set 8 count (length out.old)) wrote.old result wrote.new }
     ensures lends { Lends (write_set 8 count (length out.old)) (set_bytes sequence_number (order_of big) (set_of base count words.now)) out.old result out.new }
 {
-    drucenal::sets::drucenal_write_sequence_number_set(big, base, count, words, out, wrote)
+    drucenal::sets::drucenal_write_number_set::<i64>(big, base, count, words, out, wrote)
 }
 
 #[unsafe(no_mangle)]
@@ -46,7 +46,7 @@ pub extern "C" fn drucenal_make_sequence_number_set(
 ) -> u32
     ensures { Gives (make_set sequence_number base list.now) (set_of low.old count.old words.old) result (set_of low.new count.new words.new) }
 {
-    drucenal::sets::drucenal_make_sequence_number_set(base, list, low, count, words)
+    drucenal::sets::drucenal_make_number_set::<i64>(base, list, low, count, words)
 }
 
 #[unsafe(no_mangle)]
@@ -61,14 +61,14 @@ pub extern "C" fn drucenal_walk_sequence_number_set(
     ensures gives { Gives (walk_set sequence_number (set_of base count words.now) (length out.old)) listed.old result listed.new }
     ensures lends { Lends (walk_set sequence_number (set_of base count words.now) (length out.old)) (in_order rising (members sequence_number (set_of base count words.now))) out.old result out.new }
 {
-    drucenal::sets::drucenal_walk_sequence_number_set(rising, base, count, words, out, listed)
+    drucenal::sets::drucenal_walk_number_set::<i64>(rising, base, count, words, out, listed)
 }
 
 #[unsafe(no_mangle)]
 pub extern "C" fn drucenal_measure_sequence_number_set(count: u32, length: &mut usize) -> u32
     ensures { Gives (measure_set 8 count) length.old result length.new }
 {
-    drucenal::sets::drucenal_measure_sequence_number_set(count, length)
+    drucenal::sets::drucenal_measure_number_set::<i64>(count, length)
 }
 
 #[unsafe(no_mangle)]
@@ -82,7 +82,7 @@ pub extern "C" fn drucenal_read_fragment_number_set(
 ) -> u32
     ensures { Gives (read_set fragment_number (order_of big) bytes.now) (taken_of base.old count.old words.old taken.old) result (taken_of base.new count.new words.new taken.new) }
 {
-    drucenal::sets::drucenal_read_fragment_number_set(big, bytes, base, count, words, taken)
+    drucenal::sets::drucenal_read_number_set::<u32>(big, bytes, base, count, words, taken)
 }
 
 #[unsafe(no_mangle)]
@@ -97,7 +97,7 @@ pub extern "C" fn drucenal_write_fragment_number_set(
     ensures gives { Gives (write_set 4 count (length out.old)) wrote.old result wrote.new }
     ensures lends { Lends (write_set 4 count (length out.old)) (set_bytes fragment_number (order_of big) (set_of base count words.now)) out.old result out.new }
 {
-    drucenal::sets::drucenal_write_fragment_number_set(big, base, count, words, out, wrote)
+    drucenal::sets::drucenal_write_number_set::<u32>(big, base, count, words, out, wrote)
 }
 
 #[unsafe(no_mangle)]
@@ -110,7 +110,7 @@ pub extern "C" fn drucenal_make_fragment_number_set(
 ) -> u32
     ensures { Gives (make_set fragment_number base list.now) (set_of low.old count.old words.old) result (set_of low.new count.new words.new) }
 {
-    drucenal::sets::drucenal_make_fragment_number_set(base, list, low, count, words)
+    drucenal::sets::drucenal_make_number_set::<u32>(base, list, low, count, words)
 }
 
 #[unsafe(no_mangle)]
@@ -125,12 +125,12 @@ pub extern "C" fn drucenal_walk_fragment_number_set(
     ensures gives { Gives (walk_set fragment_number (set_of base count words.now) (length out.old)) listed.old result listed.new }
     ensures lends { Lends (walk_set fragment_number (set_of base count words.now) (length out.old)) (in_order rising (members fragment_number (set_of base count words.now))) out.old result out.new }
 {
-    drucenal::sets::drucenal_walk_fragment_number_set(rising, base, count, words, out, listed)
+    drucenal::sets::drucenal_walk_number_set::<u32>(rising, base, count, words, out, listed)
 }
 
 #[unsafe(no_mangle)]
 pub extern "C" fn drucenal_measure_fragment_number_set(count: u32, length: &mut usize) -> u32
     ensures { Gives (measure_set 4 count) length.old result length.new }
 {
-    drucenal::sets::drucenal_measure_fragment_number_set(count, length)
+    drucenal::sets::drucenal_measure_number_set::<u32>(count, length)
 }
