@@ -10,11 +10,13 @@ use Rattle.outcome.specs.Row.{Row, verdict, numbered, Exactly, Refuses, shorter}
 use Rattle.sequence_number.specs.Kind.{Kind, sequence_number, fragment_number}
 use Rattle.sequence_number.specs.NumberWire.{read_number, write_number}
 use Rattle.number_set.specs.SetWire.{read_set, write_set, measure_set, set_bytes}
-use Rattle.number_set.specs.NumberSet.{NumberSet, members}
+use Rattle.number_set.specs.NumberSet.{members}
+use Rattle.number_set.specs.declared.set.NumberSet.{NumberSet}
 use Rattle.number_set.specs.Make.{make_set}
 use Rattle.number_set.specs.Walk.{walk_set, in_order}
 use Rattle.sequence_number.specs.Number.{number_of}
-use Rattle.sequence_number.proofs.KindLaws.{Lawful, sequence_lawful, fragment_lawful}
+use Rattle.sequence_number.specs.Lawful.{Lawful}
+use Rattle.sequence_number.specs.Keeps.{sequence_lawful, fragment_lawful}
 use Rattle.proxy_record.specs.Words.{proxy_words, proxy_of}
 use Rattle.proxy_record.specs.Rules.{GoodProxy}
 use Rattle.proxy_record.specs.State.{fresh_proxy}

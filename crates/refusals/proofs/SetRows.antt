@@ -11,22 +11,25 @@ use lib.Dec.{T}
 use lib.IntN.{ℤ, pos, ◌+ℤ◌}
 use lib.Signed.{lt_z_yes, lt_z_no, clash_ℤ}
 use borrow.Author.Tests.{ltb-true, ltb-false}
-use Rattle.outcome.specs.Outcome.{Outcome, refusal, found}
-use Rattle.outcome.specs.Row.{Row, verdict, numbered, Exactly}
+use Rattle.outcome.specs.Outcome.{Outcome, refused, done, refusal, found}
+use Rattle.std.specs.Prelude.{Result, Ok, Err}
+use Rattle.outcome.specs.declared.Refusal.{Refusal}
+use Rattle.outcome.specs.Row.{verdict, accepted, Exactly}
 use Rattle.sequence_number.specs.Kind.{Kind, sequence_number, fragment_number}
 use Rattle.bitmap.specs.Bitmap.{positions, any_past}
 use Rattle.sequence_number.specs.Word.{word_at}
 use Rattle.sequence_number.specs.NumberWire.{read_number, write_number}
-use Rattle.number_set.specs.NumberSet.{NumberSet, members, set_length}
-use Rattle.number_set.specs.SetWire.{Taken, read_set, taken_set, set_bytes, write_set, measure_set}
+use Rattle.number_set.specs.NumberSet.{members, set_length}
+use Rattle.number_set.specs.declared.set.NumberSet.{NumberSet}
+use Rattle.number_set.specs.SetWire.{read_set, taken_set, set_bytes, write_set, measure_set}
 use Rattle.number_set.specs.Make.{is_rising, make_set}
 use Rattle.number_set.specs.Walk.{walk_set, in_order}
 use Rattle.sequence_number.specs.declared.ByteOrder.{ByteOrder}
 use Rattle.outcome.proofs.Split.{split, both}
-use Rattle.sequence_number.proofs.KindLaws.{Lawful}
+use Rattle.sequence_number.specs.Lawful.{Lawful}
 use Rattle.number_set.proofs.SetWireLaws.{length_set_bytes}
 use Rattle.refusals.specs.RefusalTable.{Alone, read_number_rows, write_number_rows, read_set_rows, walk_rows, write_set_rows, measure_set_rows, make_set_rows, StrictlyRising, ReadNumber, WriteNumber, ReadSet, WalkSet, WriteSet, MeasureSet, MakeSet, PastSequence, PastFragment}
-use Rattle.outcome.proofs.RowLaws.{none_left, asks, asks_not, asks_less, positive, as_number, by_number, left_refused}
+use Rattle.outcome.proofs.RowLaws.{none_left, asks, asks_not, asks_less, left_refused}
 
 -- ---- what is found, or why it is refused
 
@@ -132,12 +135,32 @@ fragment_within b i e h = let k : b + i < 2 ^ 32 = ltb-true (b + i) (2 ^ 32) e i
 
 -- ---- the calls
 
+accepted_refused : (n : ℕ) → accepted ≡ refused n → ⊥
+accepted_refused n e =
+    let z : ◌≡◌ {A = ℕ} 0 1 = ap (λ (x : Outcome (Unit {0})). is_refused_number x) e in
+    omega arith
+  where
+    is_refused_number : Outcome (Unit {0}) → ℕ
+    is_refused_number (refused m) = 1
+    is_refused_number (done a) = 0
+
+-- "Every refusal returns its number alone"
+pub alone : {A : Type 0} (r : Result A Refusal) → Alone r
+alone (Ok a) n e = absurd (accepted_refused n e)
+alone (Err x) n e = (x, ap refusal e, refl)
+
 module _ {N : Type 0} (k : Kind N) where
-  pub number_read : {R : Type 0} (said : R → Outcome N) → ReadNumber k said
-  number_read said o s r e = rw e (read_number_exactly k o s)
+  pub number_read : ReadNumber k
+  number_read o s r e = rw e (read_number_exactly k o s)
 
   pub set_measured : MeasureSet k
   set_measured s r e = rw e (measure_exactly k s)
+
+  pub set_read : ReadSet k
+  set_read o s r e = (rw e (read_set_exactly k o s), alone r)
+
+  pub set_made : MakeSet k
+  set_made base xs r e = (rw e (make_exactly k base xs), alone r)
 
 module _ {N : Type 0} (k : Kind N) (law : Lawful k) where
   pub number_written : WriteNumber k
@@ -153,19 +176,3 @@ module _ {N : Type 0} (k : Kind N) (law : Lawful k) where
         exactly = rw w.answer (write_set_exactly k law o s out);
         untouched = λ m e. w.bytes ∙ left_refused (write_set k.size s.count (length out)) (set_bytes k o s) out m (rw w.answer at e);
       }
-
--- an answer that holds its refusal number
-module _ {A R : Type 0} (answer : Outcome A → R) (number : R → ℕ) (same : (x : Outcome A) → number (answer x) ≡ refusal x) where
-  held : (x : Outcome A) (rows : List Row) → positive rows ≡ true → Exactly (verdict x) rows → (r : R) → r ≡ answer x
-      → Exactly (numbered (number r)) rows × Alone answer number r
-  held x rows p e r h = (
-    rw (h, same x) (as_number x rows p e),
-    λ n z. h ∙ ap answer (by_number x n (ap numbered (sym (same x)) ∙ ap (λ (y : R). numbered (number y)) (sym h) ∙ z)),
-  )
-
-module _ {N : Type 0} (k : Kind N) {R : Type 0} where
-  pub set_read : (answer : Outcome (Taken N) → R) (number : R → ℕ) → ((x : Outcome (Taken N)) → number (answer x) ≡ refusal x) → ReadSet k answer number
-  set_read answer number same o s = held answer number same (read_set k o s) (read_set_rows k o s) refl (read_set_exactly k o s)
-
-  pub set_made : (answer : Outcome (NumberSet N) → R) (number : R → ℕ) → ((x : Outcome (NumberSet N)) → number (answer x) ≡ refusal x) → MakeSet k answer number
-  set_made answer number same base xs = held answer number same (make_set k base xs) (make_set_rows k xs) refl (make_exactly k base xs)

@@ -3,11 +3,7 @@ use mathlib.Core.Path.{refl}
 use lib.IntN.{pos}
 use Rattle.outcome.specs.Row.{shorter}
 use Rattle.sequence_number.specs.Kind.{sequence_number, fragment_number}
-use Rattle.sequence_number.specs.NumberWire.{sequence_read_said, fragment_read_said}
-use Rattle.number_set.specs.SetWire.{sequence_set_read, fragment_set_read}
-use Rattle.number_set.specs.Make.{sequence_set_made, fragment_set_made}
-use Rattle.sequence_number.proofs.KindLaws.{sequence_lawful, fragment_lawful}
-use Rattle.number_set.proofs.SetAnswers.{sequence_read_number, fragment_read_number, sequence_made_number, fragment_made_number}
+use Rattle.sequence_number.specs.Keeps.{sequence_lawful, fragment_lawful}
 use Rattle.refusals.specs.RefusalTable.{Order, RefusalTable, not_taken, range_rows, missing_rows, PastSequence, PastFragment}
 use mathlib.Core.List.{[], ◌∷◌}
 use Rattle.proxy_record.specs.State.{fresh_proxy}
@@ -34,14 +30,14 @@ pub refusal_table : RefusalTable
 refusal_table =
     record {
       order = in_order_lem;
-      read_sequence_number = number_read sequence_number sequence_read_said;
-      read_fragment_number = number_read fragment_number fragment_read_said;
+      read_sequence_number = number_read sequence_number;
+      read_fragment_number = number_read fragment_number;
       write_sequence_number = number_written sequence_number sequence_lawful;
       write_fragment_number = number_written fragment_number fragment_lawful;
-      read_from = (set_read sequence_number sequence_set_read (λ r. r.refusal) sequence_read_number, set_read fragment_number fragment_set_read (λ r. r.refusal) fragment_read_number);
+      read_from = (set_read sequence_number, set_read fragment_number);
       write_to = (set_written sequence_number sequence_lawful, set_written fragment_number fragment_lawful);
       len_serialized = (set_measured sequence_number, set_measured fragment_number);
-      from_base_and_set = (set_made sequence_number sequence_set_made (λ r. r.refusal) sequence_made_number, set_made fragment_number fragment_set_made (λ r. r.refusal) fragment_made_number);
+      from_base_and_set = (set_made sequence_number, set_made fragment_number);
       iter = (set_walked sequence_number PastSequence sequence_over sequence_within, set_walked fragment_number PastFragment fragment_over fragment_within);
       proxy_set_up = λ w w' r. told_as (shorter w (proxy_words fresh_proxy) ∷ []) (set_up_rows w);
       received_changes_add = λ w w' n time r g f. told_as (not_taken n ∷ []) (add_rows w g n time f);

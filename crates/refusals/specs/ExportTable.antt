@@ -9,8 +9,10 @@ use Rattle.outcome.specs.Row.{Row, numbered, Refuses, shorter}
 use Rattle.sequence_number.specs.Number.{number_of}
 use Rattle.sequence_number.specs.Kind.{Kind, sequence_number, fragment_number}
 use Rattle.sequence_number.specs.NumberWire.{read_number, write_number}
-use Rattle.number_set.specs.NumberSet.{NumberSet, members}
-use Rattle.number_set.specs.SetWire.{Taken, set_bytes, read_set, write_set, measure_set}
+use Rattle.number_set.specs.NumberSet.{members}
+use Rattle.number_set.specs.declared.set.NumberSet.{NumberSet}
+use Rattle.number_set.specs.declared.set.Taken.{Taken}
+use Rattle.number_set.specs.SetWire.{set_bytes, read_set, write_set, measure_set}
 use Rattle.number_set.specs.Make.{make_set}
 use Rattle.number_set.specs.Walk.{walk_set, in_order}
 use Rattle.proxy_record.specs.State.{fresh_proxy}
@@ -33,32 +35,32 @@ use Rattle.refusals.specs.RefusalTable.{read_number_rows, write_number_rows, rea
 -- ---- numbers and sets, over the kind of number
 
 abbrev pub ReadNumberOut : {N : Type 0} → Kind N → Type 0
-ReadNumberOut k = (big : Bool) (s : List ℕ) (r : ℕ) (before after : N) → Gives (read_number k (order_of big) s) before r after
+ReadNumberOut {N} k = (big : Bool) (s : List ℕ) (r : ℕ) (before after : N) → Gives (read_number k (order_of big) s) before r after
     → Refuses (numbered r) (read_number_rows k s) (after ≡ before)
 
 abbrev pub WriteNumberOut : {N : Type 0} → Kind N → Type 0
-WriteNumberOut k = (big : Bool) (n : N) (out after : List ℕ) (r : ℕ) → Lends (write_number k (length out)) (k.number_bytes (order_of big) n) out r after
+WriteNumberOut {N} k = (big : Bool) (n : N) (out after : List ℕ) (r : ℕ) → Lends (write_number k (length out)) (k.number_bytes (order_of big) n) out r after
     → Refuses (numbered r) (write_number_rows k (order_of big) n out) (after ≡ out)
 
 abbrev pub ReadSetOut : {N : Type 0} → Kind N → Type 0
-ReadSetOut k = (big : Bool) (s : List ℕ) (r : ℕ) (before after : Taken N) → Gives (read_set k (order_of big) s) before r after
+ReadSetOut {N} k = (big : Bool) (s : List ℕ) (r : ℕ) (before after : Taken N) → Gives (read_set k (order_of big) s) before r after
     → Refuses (numbered r) (read_set_rows k (order_of big) s) (after ≡ before)
 
 abbrev pub WriteSetOut : {N : Type 0} → Kind N → Type 0
-WriteSetOut k = (big : Bool) (s : NumberSet N) (out after : List ℕ) (r wrote wrote' : ℕ)
+WriteSetOut {N} k = (big : Bool) (s : NumberSet N) (out after : List ℕ) (r wrote wrote' : ℕ)
     → Gives (write_set k.size s.count (length out)) wrote r wrote' → Lends (write_set k.size s.count (length out)) (set_bytes k (order_of big) s) out r after
     → Refuses (numbered r) (write_set_rows k (order_of big) s out) ((after ≡ out) × (wrote' ≡ wrote))
 
 abbrev pub MakeSetOut : {N : Type 0} → Kind N → Type 0
-MakeSetOut k = (base : N) (xs : List N) (r : ℕ) (before after : NumberSet N) → Gives (make_set k base xs) before r after
+MakeSetOut {N} k = (base : N) (xs : List N) (r : ℕ) (before after : NumberSet N) → Gives (make_set k base xs) before r after
     → Refuses (numbered r) (make_set_rows k xs) (after ≡ before)
 
 abbrev pub WalkSetOut : {N : Type 0} (k : Kind N) → (N → Type 0) → Type 0
-WalkSetOut k Past = (s : NumberSet N) (up : Bool) (out after : List N) (r count count' : ℕ) → Gives (walk_set k s (length out)) count r count'
+WalkSetOut {N} k Past = (s : NumberSet N) (up : Bool) (out after : List N) (r count count' : ℕ) → Gives (walk_set k s (length out)) count r count'
     → Lends (walk_set k s (length out)) (in_order up (members k s)) out r after → Refuses (numbered r) (walk_rows k Past s out) ((after ≡ out) × (count' ≡ count))
 
 abbrev pub MeasureSetOut : {N : Type 0} → Kind N → Type 0
-MeasureSetOut k = (s : NumberSet N) (r before after : ℕ) → Gives (measure_set k.size s.count) before r after
+MeasureSetOut {N} k = (s : NumberSet N) (r before after : ℕ) → Gives (measure_set k.size s.count) before r after
     → Refuses (numbered r) (measure_set_rows k s) (after ≡ before)
 
 -- ---- the proxy: the record w, and a forced step's old and new base behind two references

@@ -10,36 +10,34 @@
 --    14  assemblerSetUpRows
 --    15  makeSetRows
 -- Assumes nothing.
-use Rattle.std.specs.Prelude.{ℕ, suc, ◌+◌, ◌-◌, ◌*◌, ◌<◌, ◌≤◌, ◌^◌, ◌≡◌, Bool, true, false, cond, ◌⊎◌, length, get_or, take, ℤ, pos, ◌≤ℤ◌, ◌<ℤ◌}
+use Rattle.std.specs.Prelude.{ℕ, suc, ◌+◌, ◌-◌, ◌*◌, ◌<◌, ◌≤◌, ◌^◌, ◌≡◌, Bool, true, false, cond, ◌⊎◌, length, get_or, take, ℤ, pos, ◌≤ℤ◌, ◌<ℤ◌, Option, Result, Err}
 use mathlib.Core.List.{List, [], ◌∷◌, Memᴰ}
 use Rattle.std.specs.Int.{w64}
 use Rattle.std.proofs.Common.{SFits}
 use Rattle.outcome.specs.Outcome.{Outcome, refused, done}
+use Rattle.outcome.specs.Refusal.{number_of_refusal, said}
+use Rattle.outcome.specs.declared.Refusal.{Refusal}
 use Rattle.outcome.specs.Row.{Row, row, row_numbers, verdict, numbered, Exactly, Refuses, shorter}
 use Rattle.outcome.specs.Lent.{over}
 use Rattle.sequence_number.specs.Number.{number_of}
 use Rattle.sequence_number.specs.Kind.{Kind, sequence_number, fragment_number}
 use Rattle.sequence_number.specs.Word.{word_at}
-use Rattle.sequence_number.specs.NumberWire.{sequence_read_said, fragment_read_said, written_said, read_number, Writes}
-use Rattle.number_set.specs.NumberSet.{NumberSet, members, set_length}
-use Rattle.number_set.specs.SetWire.{Taken, set_bytes, read_set, sequence_set_read, fragment_set_read, measured_said, measure_set, WritesSet}
-use Rattle.number_set.specs.Make.{make_set, sequence_set_made, fragment_set_made}
-use Rattle.number_set.specs.Walk.{walked_said, Walks}
+use Rattle.sequence_number.specs.NumberWire.{read_number, Writes}
+use Rattle.number_set.specs.NumberSet.{members, set_length}
+use Rattle.number_set.specs.declared.set.NumberSet.{NumberSet}
+use Rattle.number_set.specs.declared.set.Taken.{Taken}
+use Rattle.number_set.specs.SetWire.{set_bytes, read_set, measure_set, WritesSet}
+use Rattle.number_set.specs.Make.{make_set}
+use Rattle.number_set.specs.Walk.{Walks}
 use Rattle.sequence_number.specs.declared.ByteOrder.{ByteOrder}
-use Rattle.sequence_number.specs.declared.wire.Written.{Written}
-use Rattle.number_set.specs.declared.set.Measured.{Measured}
-use Rattle.number_set.specs.declared.set.Walked.{Walked}
 use Rattle.proxy_record.specs.State.{Proxy, fresh_proxy}
 use Rattle.proxy_record.specs.Words.{proxy_words, proxy_of}
 use Rattle.proxy_record.specs.Rules.{GoodProxy}
 use Rattle.proxy_steps.specs.Steps.{report_said, ProxyAnswers}
-use Rattle.proxy_steps.specs.declared.Report.{Report}
-use Rattle.outcome.specs.declared.SetUp.{SetUp}
+use Rattle.proxy_steps.specs.declared.Forced.{Forced}
 use Rattle.writer_proxy.specs.SetUp.{set_up_proxy}
 use Rattle.writer_proxy.specs.Calls.{received, irrelevant, irrelevant_range, up_to}
 use Rattle.writer_proxy.specs.Missing.{missing_numbers, missing_listed}
-use Rattle.outcome.specs.Answers.{listing_said, set_up_said}
-use Rattle.outcome.specs.declared.Listing.{Listing}
 use Rattle.assembly_record.specs.State.{Assembler, place_at}
 use Rattle.assembly_record.specs.Table.{find, is_partially_received}
 use Rattle.assembly_record.specs.Fragments.{fragments}
@@ -47,42 +45,39 @@ use Rattle.fragment_assembler.specs.Fragment.{fragment_with}
 use Rattle.fragment_assembler.specs.Call.{fragment_said}
 use Rattle.fragment_assembler.specs.SetUp.{fresh_assembler}
 use Rattle.assembly_record.specs.Stale.{stale_numbers}
-use Rattle.fragment_assembler.specs.Clean.{cleaned_said}
 use Rattle.fragment_assembler.specs.Missing.{missing_fragments}
 use Rattle.fragment_assembler.specs.Promise.{SetsUpAssembler, TakesFragment, CleansAssembler, ListsFragments}
 use Rattle.assembly_record.specs.Words.{assembler_words, assembler_of}
 use Rattle.assembly_record.specs.Rules.{GoodAssembler}
 use Rattle.fragment_assembler.specs.declared.fragment.Answer.{Answer}
-use Rattle.fragment_assembler.specs.declared.clean.Cleaned.{Cleaned}
 use Rattle.line_text.specs.Decimal.{line_of}
 use Rattle.line_text.specs.Held.{held_line}
-use Rattle.replay_lines.specs.Frame.{parsed_said, parsed}
+use Rattle.replay_lines.specs.Frame.{parsed}
 use Rattle.replay_lines.specs.Answer.{step_of, LineAnswered}
 use Rattle.replay_lines.specs.Feed.{Feeding, took, says}
 use Rattle.replay_lines.specs.declared.frame.Frame.{Frame}
 use Rattle.replay_lines.specs.declared.frame.Frame.TheVariants.{Received, Range, Missing}
-use Rattle.replay_lines.specs.declared.frame.Parsed.{Parsed}
 
 -- ==== Numbers and sets (crates sequence_number and number_set), over the kind of number
 
--- "Every refusal returns its number alone": an answer that has room for a set is the one for that number, with the empty set at 0
-abbrev pub Alone : {A R : Type 0} → (Outcome A → R) → (R → ℕ) → R → Type 0
-Alone answer refusal r = (n : ℕ) → numbered (refusal r) ≡ refused n → r ≡ answer (refused n)
+-- "Every refusal returns its number alone": an answer that has room for a set has none where it is refused
+abbrev pub Alone : {A : Type 0} → Result A Refusal → Type 0
+Alone r = (n : ℕ) → verdict (said r) ≡ refused n → (x : Refusal) × (number_of_refusal x ≡ n) × (r ≡ Err x)
 
 -- A number read: its bytes end early
 abbrev pub read_number_rows : {N : Type 0} → Kind N → List ℕ → List Row
 read_number_rows k s = row 1 (length s < k.size) ∷ []
 
-abbrev pub ReadNumber : {N : Type 0} (k : Kind N) {R : Type 0} → (R → Outcome N) → Type 0
-ReadNumber k {R} said = (o : ByteOrder) (s : List ℕ) (r : R) → said r ≡ read_number k o s → Exactly (verdict (said r)) (read_number_rows k s)
+abbrev pub ReadNumber : {N : Type 0} → Kind N → Type 0
+ReadNumber {N} k = (o : ByteOrder) (s : List ℕ) (r : Result N Refusal) → said r ≡ read_number k o s → Exactly (verdict (said r)) (read_number_rows k s)
 
 -- A number written
 abbrev pub write_number_rows : {N : Type 0} (k : Kind N) → ByteOrder → N → List ℕ → List Row
 write_number_rows k o n out = shorter out (k.number_bytes o n) ∷ []
 
 abbrev pub WriteNumber : {N : Type 0} → Kind N → Type 0
-WriteNumber k = (o : ByteOrder) (n : N) (out after : List ℕ) (r : Written) → Writes k o n out r after
-    → Refuses (verdict (written_said r)) (write_number_rows k o n out) (after ≡ out)
+WriteNumber {N} k = (o : ByteOrder) (n : N) (out after : List ℕ) (r : Result ℕ Refusal) → Writes k o n out r after
+    → Refuses (verdict (said r)) (write_number_rows k o n out) (after ≡ out)
 
 -- "Set reading: 1 for base or count, 2, 1 for words"; 1: "set bytes end early", 2: "bit count above 256"
 abbrev pub read_set_rows : {N : Type 0} → Kind N → ByteOrder → List ℕ → List Row
@@ -92,9 +87,9 @@ read_set_rows k o s =
     ∷ row 1 (length s < set_length k.size (word_at o s k.size))
     ∷ []
 
-abbrev pub ReadSet : {N : Type 0} (k : Kind N) {R : Type 0} → (Outcome (Taken N) → R) → (R → ℕ) → Type 0
-ReadSet k {R} answer refusal = (o : ByteOrder) (s : List ℕ) (r : R) → r ≡ answer (read_set k o s)
-    → Exactly (numbered (refusal r)) (read_set_rows k o s) × Alone answer refusal r
+abbrev pub ReadSet : {N : Type 0} → Kind N → Type 0
+ReadSet {N} k = (o : ByteOrder) (s : List ℕ) (r : Result (Taken N) Refusal) → said r ≡ read_set k o s
+    → Exactly (verdict (said r)) (read_set_rows k o s) × Alone r
 
 -- "A set walked: 2, 4, 3"; 4: "a member past its type in a set walked (added)"
 abbrev pub walk_rows : {N : Type 0} (k : Kind N) → (N → Type 0) → NumberSet N → List N → List Row
@@ -105,8 +100,8 @@ walk_rows k Past s out =
     ∷ []
 
 abbrev pub WalkSet : {N : Type 0} (k : Kind N) → (N → Type 0) → Type 0
-WalkSet k Past = (s : NumberSet N) (up : Bool) (out after : List N) (r : Walked) → Walks k s up out r after
-    → Refuses (verdict (walked_said r)) (walk_rows k Past s out) (after ≡ out)
+WalkSet {N} k Past = (s : NumberSet N) (up : Bool) (out after : List N) (r : Result ℕ Refusal) → Walks k s up out r after
+    → Refuses (verdict (said r)) (walk_rows k Past s out) (after ≡ out)
 
 abbrev pub PastSequence : ℤ → Type 0
 PastSequence m = pos (2 ^ 63) ≤ℤ m
@@ -119,15 +114,15 @@ abbrev pub write_set_rows : {N : Type 0} (k : Kind N) → ByteOrder → NumberSe
 write_set_rows k o s out = row 2 (256 < s.count) ∷ shorter out (set_bytes k o s) ∷ []
 
 abbrev pub WriteSet : {N : Type 0} → Kind N → Type 0
-WriteSet k = (o : ByteOrder) (s : NumberSet N) (out after : List ℕ) (r : Written) → WritesSet k o s out r after
-    → Refuses (verdict (written_said r)) (write_set_rows k o s out) (after ≡ out)
+WriteSet {N} k = (o : ByteOrder) (s : NumberSet N) (out after : List ℕ) (r : Result ℕ Refusal) → WritesSet k o s out r after
+    → Refuses (verdict (said r)) (write_set_rows k o s out) (after ≡ out)
 
 -- "measured: 2"
 abbrev pub measure_set_rows : {N : Type 0} (k : Kind N) → NumberSet N → List Row
 measure_set_rows k s = row 2 (256 < s.count) ∷ []
 
 abbrev pub MeasureSet : {N : Type 0} → Kind N → Type 0
-MeasureSet k = (s : NumberSet N) (r : Measured) → measured_said r ≡ measure_set k.size s.count → Exactly (verdict (measured_said r)) (measure_set_rows k s)
+MeasureSet {N} k = (s : NumberSet N) (r : Result ℕ Refusal) → said r ≡ measure_set k.size s.count → Exactly (verdict (said r)) (measure_set_rows k s)
 
 -- "Making: 15"; 15: "list not strictly rising (added)"
 abbrev pub StrictlyRising : {N : Type 0} (k : Kind N) → List N → Type 0
@@ -136,11 +131,11 @@ StrictlyRising k xs = (i : ℕ) → suc i < length xs → k.below (get_or xs i k
 abbrev pub make_set_rows : {N : Type 0} (k : Kind N) → List N → List Row
 make_set_rows k xs = row 15 (StrictlyRising k xs → ⊥) ∷ []
 
-abbrev pub MakeSet : {N : Type 0} (k : Kind N) {R : Type 0} → (Outcome (NumberSet N) → R) → (R → ℕ) → Type 0
-MakeSet k {R} answer refusal = (base : N) (xs : List N) (r : R) → r ≡ answer (make_set k base xs)
-    → Exactly (numbered (refusal r)) (make_set_rows k xs) × Alone answer refusal r
+abbrev pub MakeSet : {N : Type 0} → Kind N → Type 0
+MakeSet {N} k = (base : N) (xs : List N) (r : Result (NumberSet N) Refusal) → said r ≡ make_set k base xs
+    → Exactly (verdict (said r)) (make_set_rows k xs) × Alone r
 
--- `number_of` (module number) gives 0 for a number that row 4 names, `natural` 0 for a negative one; neither has a refusal, nor has `of_bits`.
+-- `number_of` (module number) gives nothing for a number that row 4 names, `natural` 0 for a negative one; neither has a refusal.
 
 -- ==== The writer proxy (crate writer_proxy); `SFits w64 n` says that n is an i64
 
@@ -254,42 +249,42 @@ pub record Order : Type 1 where
 pub record RefusalTable : Type 1 where
   pub order : Order
   -- wire
-  pub read_sequence_number : ReadNumber sequence_number sequence_read_said
-  pub read_fragment_number : ReadNumber fragment_number fragment_read_said
+  pub read_sequence_number : ReadNumber sequence_number
+  pub read_fragment_number : ReadNumber fragment_number
   pub write_sequence_number : WriteNumber sequence_number
   pub write_fragment_number : WriteNumber fragment_number
-  -- SequenceNumberSet and FragmentNumberSet
-  pub read_from : ReadSet sequence_number sequence_set_read (λ r. r.refusal) × ReadSet fragment_number fragment_set_read (λ r. r.refusal)
+  -- NumberSet
+  pub read_from : ReadSet sequence_number × ReadSet fragment_number
   pub write_to : WriteSet sequence_number × WriteSet fragment_number
   pub len_serialized : MeasureSet sequence_number × MeasureSet fragment_number
-  pub from_base_and_set : MakeSet sequence_number sequence_set_made (λ r. r.refusal) × MakeSet fragment_number fragment_set_made (λ r. r.refusal)
+  pub from_base_and_set : MakeSet sequence_number × MakeSet fragment_number
   pub iter : WalkSet sequence_number PastSequence × WalkSet fragment_number PastFragment
   -- writer_proxy; w is the lent record
-  pub proxy_set_up : (w w' : List ℕ) (r : SetUp) → (set_up_said r ≡ (set_up_proxy w).answer) × (w' ≡ (set_up_proxy w).words)
-      → Refuses (verdict (set_up_said r)) (shorter w (proxy_words fresh_proxy) ∷ []) (w' ≡ w)
-  pub received_changes_add : (w w' : List ℕ) (n : ℤ) (time : ℕ) (r : Report) → GoodProxy w → SFits w64 n → ProxyAnswers r w' (received n time (proxy_of w))
+  pub proxy_set_up : (w w' : List ℕ) (r : Result (Unit {0}) Refusal) → (said r ≡ (set_up_proxy w).answer) × (w' ≡ (set_up_proxy w).words)
+      → Refuses (verdict (said r)) (shorter w (proxy_words fresh_proxy) ∷ []) (w' ≡ w)
+  pub received_changes_add : (w w' : List ℕ) (n : ℤ) (time : ℕ) (r : Result (Option Forced) Refusal) → GoodProxy w → SFits w64 n → ProxyAnswers r w' (received n time (proxy_of w))
       → Refuses (verdict (report_said r)) (not_taken n ∷ []) (w' ≡ w)
-  pub set_irrelevant_change : (w w' : List ℕ) (n : ℤ) (r : Report) → GoodProxy w → SFits w64 n → ProxyAnswers r w' (irrelevant n (proxy_of w))
+  pub set_irrelevant_change : (w w' : List ℕ) (n : ℤ) (r : Result (Option Forced) Refusal) → GoodProxy w → SFits w64 n → ProxyAnswers r w' (irrelevant n (proxy_of w))
       → Refuses (verdict (report_said r)) (not_taken n ∷ []) (w' ≡ w)
-  pub irrelevant_changes_range : (w w' : List ℕ) (a b : ℤ) (r : Report) → GoodProxy w → ProxyAnswers r w' (irrelevant_range a b (proxy_of w))
+  pub irrelevant_changes_range : (w w' : List ℕ) (a b : ℤ) (r : Result (Option Forced) Refusal) → GoodProxy w → ProxyAnswers r w' (irrelevant_range a b (proxy_of w))
       → Refuses (verdict (report_said r)) (range_rows a b) (w' ≡ w)
-  pub irrelevant_changes_up_to : (w w' : List ℕ) (n : ℤ) (r : Report) → GoodProxy w → ProxyAnswers r w' (up_to n (proxy_of w))
+  pub irrelevant_changes_up_to : (w w' : List ℕ) (n : ℤ) (r : Result (Option Forced) Refusal) → GoodProxy w → ProxyAnswers r w' (up_to n (proxy_of w))
       → Refuses (verdict (report_said r)) (range_rows (pos 0) n) (w' ≡ w)
-  pub missing_seqnums : (w : List ℕ) (start end : ℤ) (out after : List ℤ) (r : Listing) → GoodProxy w
-      → (listing_said r ≡ (missing_listed start end (proxy_of w) out).answer) × (after ≡ (missing_listed start end (proxy_of w) out).list)
-      → Refuses (verdict (listing_said r)) (missing_rows start end (proxy_of w) out) (after ≡ out)
+  pub missing_seqnums : (w : List ℕ) (start end : ℤ) (out after : List ℤ) (r : Result ℕ Refusal) → GoodProxy w
+      → (said r ≡ (missing_listed start end (proxy_of w) out).answer) × (after ≡ (missing_listed start end (proxy_of w) out).list)
+      → Refuses (verdict (said r)) (missing_rows start end (proxy_of w) out) (after ≡ out)
   -- fragment_assembler; w is the lent record
-  pub assembler_set_up : (w w' : List ℕ) (f : ℕ) (reliable : Bool) (p : ℕ) (r : SetUp) → SetsUpAssembler w f reliable p r w'
-      → Refuses (verdict (set_up_said r)) (assembler_set_up_rows f reliable p w) (w' ≡ w)
-  pub new_datafrag : (w w' area area' : List ℕ) (time : ℕ) (number : ℤ) (fragment_size D k n : ℕ) (payload : List ℕ) (r : Answer) → GoodAssembler w → SFits w64 number
+  pub assembler_set_up : (w w' : List ℕ) (f : ℕ) (reliable : Bool) (p : ℕ) (r : Result (Unit {0}) Refusal) → SetsUpAssembler w f reliable p r w'
+      → Refuses (verdict (said r)) (assembler_set_up_rows f reliable p w) (w' ≡ w)
+  pub new_datafrag : (w w' area area' : List ℕ) (time : ℕ) (number : ℤ) (fragment_size D k n : ℕ) (payload : List ℕ) (r : Result Answer Refusal) → GoodAssembler w → SFits w64 number
       → TakesFragment w area (fragment_with time (number_of number) fragment_size D k n payload) r w' area'
       → Refuses (verdict (fragment_said r)) (fragment_rows (assembler_of w) area number fragment_size D k n) ((w' ≡ w) × (area' ≡ area))
-  pub garbage_collect_before : (w w' : List ℕ) (cutoff : ℕ) (out after : List ℤ) (r : Cleaned) → GoodAssembler w → CleansAssembler w cutoff out r w' after
-      → Refuses (verdict (cleaned_said r)) (shorter out (stale_numbers cutoff (assembler_of w).places) ∷ []) ((w' ≡ w) × (after ≡ out))
-  pub missing_frags_for : (w : List ℕ) (number : ℤ) (out after : List ℕ) (r : Listing) → GoodAssembler w → ListsFragments w (number_of number) out r after
-      → Refuses (verdict (listing_said r)) (shorter out (missing_fragments (assembler_of w) (number_of number)) ∷ []) (after ≡ out)
+  pub garbage_collect_before : (w w' : List ℕ) (cutoff : ℕ) (out after : List ℤ) (r : Result ℕ Refusal) → GoodAssembler w → CleansAssembler w cutoff out r w' after
+      → Refuses (verdict (said r)) (shorter out (stale_numbers cutoff (assembler_of w).places) ∷ []) ((w' ≡ w) × (after ≡ out))
+  pub missing_frags_for : (w : List ℕ) (number : ℤ) (out after : List ℕ) (r : Result ℕ Refusal) → GoodAssembler w → ListsFragments w (number_of number) out r after
+      → Refuses (verdict (said r)) (shorter out (missing_fragments (assembler_of w) (number_of number)) ∷ []) (after ≡ out)
   -- replay_lines: the proxy's record w, the lent list and the buffer; a line stands without its line feed
-  pub parse : (line : List ℕ) (r : Parsed) → parsed_said r ≡ parsed line → Exactly (verdict (parsed_said r)) (malformed line ∷ [])
+  pub parse : (line : List ℕ) (r : Result Frame Refusal) → said r ≡ parsed line → Exactly (verdict (said r)) (malformed line ∷ [])
   pub answer_line_says : (w w' line : List ℕ) (list list' : List ℤ) (out out' : List ℕ) (n : ℕ) → GoodProxy w
       → LineAnswered n w' list' out out' (step_of (parsed line) (proxy_of w) list)
       → (text : List ℕ) × (n ≡ length text) × (out' ≡ over text out)
