@@ -8,18 +8,16 @@ use native.Mathlib.Numerals.{add-one}
 use lib.ListN.{length, length-append, get_or, drop, set}
 use lib.Seq.{sets}
 use borrow.Author.Tests.{lt-ltb, le-ltb}
+use Rattle.std.specs.Prelude.{Result, Ok}
 use Rattle.outcome.specs.Outcome.{refused, done}
+use Rattle.outcome.specs.Refusal.{said}
+use Rattle.outcome.specs.declared.Refusal.{Refusal}
 use Rattle.sequence_number.specs.Word.{word_at, word_bytes}
-use Rattle.sequence_number.specs.NumberWire.{written_said}
 use Rattle.bitmap.specs.Bitmap.{zero_words}
-use Rattle.set_words.specs.SetWords.{word_count, set_length, bit_count_said, read_count, words_from, read_words, words_bytes, bits_bytes, write_set}
+use Rattle.set_words.specs.SetWords.{word_count, set_length, read_count, words_from, read_words, words_bytes, bits_bytes, write_set}
 use Rattle.sequence_number.specs.declared.ByteOrder.{ByteOrder}
-use Rattle.set_words.specs.declared.BitCount.{BitCount}
-use Rattle.set_words.specs.declared.BitCount.TheVariants as bit_count
-use Rattle.sequence_number.specs.declared.wire.Written.{Written}
-use Rattle.sequence_number.specs.declared.wire.Written.TheVariants.{Wrote}
 use Rattle.outcome.proofs.LentLaws.{sets_sets, set_sets, sets_over, drop_replicate}
-use Rattle.sequence_number.proofs.WordLaws.{length_bytes}
+use Rattle.sequence_number.specs.Keeps.{length_bytes}
 
 -- ---- reading
 
@@ -95,8 +93,8 @@ module _ (size : ℕ) (o : ByteOrder) (s : List ℕ) where
           (omega arith, subst (λ (k : ℕ). set_length size k ≤ length s) (sym w) (omega arith))
 
   -- the same of what the code's leaf answers
-  pub bits_there : (c : BitCount) (n : ℕ) → bit_count_said c ≡ read_count size o s → c ≡ bit_count.Bits n → (n ≤ 256) × (set_length size n ≤ length s)
-  bits_there c n e p = count_there n (sym (ap bit_count_said p) ∙ e)
+  pub bits_there : (c : Result ℕ Refusal) (n : ℕ) → said c ≡ read_count size o s → c ≡ Ok n → (n ≤ 256) × (set_length size n ≤ length s)
+  bits_there c n e p = count_there n (sym (ap said p) ∙ e)
 
 -- ---- writing
 
@@ -127,8 +125,8 @@ length_bits o count ws =
     omega (arith, length-append (word_bytes o count) (words_bytes o ws (word_count count)))
 
 -- what is written was allowed
-pub wrote_means : (size count room : ℕ) {w : Written} (n : ℕ) → w ≡ Wrote n → written_said w ≡ write_set size count room → (count ≤ 256) × (set_length size count ≤ room)
-wrote_means size count room {w} n q p = go (dec_lt 256 count) (dec_lt room (set_length size count)) (sym (ap written_said q) ∙ p)
+pub wrote_means : (size count room : ℕ) {w : Result ℕ Refusal} (n : ℕ) → w ≡ Ok n → said w ≡ write_set size count room → (count ≤ 256) × (set_length size count ≤ room)
+wrote_means size count room {w} n q p = go (dec_lt 256 count) (dec_lt room (set_length size count)) (sym (ap said q) ∙ p)
   where
     go : Dec (256 < count) → Dec (room < set_length size count) → done n ≡ write_set size count room → (count ≤ 256) × (set_length size count ≤ room)
     go (yes h) d e =

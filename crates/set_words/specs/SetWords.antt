@@ -3,8 +3,6 @@ use Rattle.std.specs.Prelude.{ℕ, zero, suc, ◌+◌, ◌*◌, ◌/◌, ◌-◌
 use Rattle.outcome.specs.Outcome.{Outcome, refused, done}
 use Rattle.sequence_number.specs.Word.{word_at, word_bytes}
 use Rattle.sequence_number.specs.declared.ByteOrder.{ByteOrder}
-use Rattle.set_words.specs.declared.BitCount.{BitCount}
-use Rattle.set_words.specs.declared.BitCount.TheVariants.{Refused, Bits}
 
 -- "ceil(count / 32) words"
 abbrev pub word_count : ℕ → ℕ
@@ -13,11 +11,6 @@ word_count count = (count + 31) / 32
 -- "Length is 8 (sequence) or 4 (fragment), plus 4, plus 4 for each word": with a base of so many bytes
 abbrev pub set_length : ℕ → ℕ → ℕ
 set_length size count = size + 4 + 4 * word_count count
-
--- the paper's number and value for the answer of reading a count
-abbrev pub bit_count_said : BitCount → Outcome ℕ
-bit_count_said (Refused n) = refused n
-bit_count_said (Bits n) = done n
 
 -- the count of the set whose base takes so many bytes: "1 for base or count, 2, 1 for words"
 abbrev pub read_count : ℕ → ByteOrder → List ℕ → Outcome ℕ

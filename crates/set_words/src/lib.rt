@@ -3,18 +3,18 @@
 
 ghost use Rattle.std.specs.Prelude.{◌≡◌, ◌+◌, ◌*◌, ◌≤◌, length};
 ghost use Rattle.std.proofs.lemmas.List.Edits.{sets};
-ghost use Rattle.sequence_number.specs.NumberWire.{written_said};
-ghost use Rattle.set_words.specs.SetWords.{word_count, set_length, bit_count_said, read_count, read_words, words_bytes, bits_bytes, write_set};
+ghost use Rattle.outcome.specs.Refusal.{said};
+ghost use Rattle.set_words.specs.SetWords.{word_count, set_length, read_count, read_words, words_bytes, bits_bytes, write_set};
 
+use outcome::Refusal;
 use sequence_number::ByteOrder;
-use sequence_number::wire::Written;
 use sequence_number::word::{read_word, write_word};
 
-// A refusal, or the count of a set's bits.
-#[derive(Drop)]
-pub enum BitCount {
-    Refused(u8),
-    Bits(u32),
+// How many words hold so many bits.
+pub fn word_count(count: u32) -> usize
+    ensures { result ≡ word_count count }
+{
+    count.div_ceil(32) as usize
 }
 
 // How many bytes a set takes whose base takes size bytes: of either width.
@@ -23,25 +23,25 @@ pub fn set_length(size: usize, count: u32) -> usize
     requires count_bound { count ≤ 256 }
     ensures { result ≡ set_length size count }
 {
-    size + 4 + 4 * (((count + 31) / 32) as usize)
+    size + 4 + 4 * word_count(count)
 }
 
 // The count of a set whose base takes size bytes: of either width.
-pub fn read_count(size: usize, o: ByteOrder, s: &[u8]) -> BitCount
+pub fn read_count(size: usize, o: ByteOrder, s: &[u8]) -> Result<u32, Refusal>
     requires { size ≤ 8 }
-    ensures { bit_count_said result ≡ read_count size o s.now }
+    ensures { said result ≡ read_count size o s.now }
 {
     if s.len() < size + 4 {
-        return BitCount::Refused(1);
+        return Err(Refusal::EndsEarly);
     }
     let count = read_word(o, s, size);
     if 256 < count {
-        return BitCount::Refused(2);
+        return Err(Refusal::TooManyBits);
     }
     if s.len() < set_length(size, count) {
-        return BitCount::Refused(1);
+        return Err(Refusal::EndsEarly);
     }
-    BitCount::Bits(count)
+    Ok(count)
 }
 
 // n words from a place on, and zeros.
@@ -51,10 +51,8 @@ pub fn read_words(o: ByteOrder, s: &[u8], at: usize, n: usize) -> [u32; 8]
     ensures { result ≡ read_words o s.now at n }
 {
     let mut words = [0u32; 8];
-    let mut i: usize = 0;
-    while i < n {
+    for i in 0..n {
         words[i] = read_word(o, s, at + 4 * i);
-        i += 1;
     }
     words
 }
@@ -65,10 +63,8 @@ fn write_words(o: ByteOrder, words: [u32; 8], n: usize, out: &mut [u8], at: usiz
     requires n_in_bounds { at + 4 * n ≤ length out.old }
     ensures { out.new ≡ sets out.old at (words_bytes o words n) }
 {
-    let mut i: usize = 0;
-    while i < n {
+    for i in 0..n {
         write_word(o, words[i], out, at + 4 * i);
-        i += 1;
     }
 }
 
@@ -79,20 +75,20 @@ pub fn write_bits(o: ByteOrder, count: u32, words: [u32; 8], out: &mut [u8], at:
     ensures { out.new ≡ sets out.old at (bits_bytes o count words) }
 {
     write_word(o, count, out, at);
-    write_words(o, words, ((count + 31) / 32) as usize, out, at + 4);
+    write_words(o, words, word_count(count), out, at + 4);
 }
 
 // What writing a set with a base of size bytes answers: of either width.
-pub fn write_room(size: usize, count: u32, room: usize) -> Written
+pub fn write_room(size: usize, count: u32, room: usize) -> Result<usize, Refusal>
     requires { size ≤ 8 }
-    ensures { written_said result ≡ write_set size count room }
+    ensures { said result ≡ write_set size count room }
 {
     if 256 < count {
-        return Written::Refused(2);
+        return Err(Refusal::TooManyBits);
     }
     let n = set_length(size, count);
     if room < n {
-        return Written::Refused(3);
+        return Err(Refusal::ShortOutput);
     }
-    Written::Wrote(n)
+    Ok(n)
 }

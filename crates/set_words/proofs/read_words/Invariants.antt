@@ -4,11 +4,7 @@ use Rattle.set_words.specs.SetWords.{words_from}
 use Rattle.bitmap.specs.Bitmap.{zero_words}
 use lib.Seq.{sets}
 use mathlib.Core.Path.{◌≡◌}
-use Prim.Native.Nat.{◌≤◌, ◌-◌}
 use Rattle.set_words.proofs.read_words.Given as goal
 
 abbrev pub invariant-loop-i : goal.invariant-loop-i
-invariant-loop-i l = (l.i ≤ l.n) × (l.words ≡ sets zero_words 0 (words_from l.o l.s l.at l.i))
-
-abbrev pub decreases-loop-i : goal.decreases-loop-i
-decreases-loop-i l = l.n - l.i
+invariant-loop-i l = l.words ≡ sets zero_words 0 (words_from l.o l.s l.at l.i)
