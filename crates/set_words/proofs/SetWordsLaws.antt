@@ -1,15 +1,14 @@
 -- Laws of `specs/SetWords.antt`: each turn and each answer of the code. Assumes nothing.
-use Prim.Native.Nat.{ℕ, zero, suc, ◌+◌, ◌*◌, ◌<◌, ◌≤◌}
-use mathlib.Core.Path.{◌≡◌, refl, ap, ◌∙◌, sym, subst}
+use Prim.Native.Nat.{ℕ, zero, suc, ◌+◌, ◌*◌, ◌≤◌}
+use mathlib.Core.Path.{◌≡◌, refl, ap, ◌∙◌, sym}
 use mathlib.Core.List.{List, [], ◌∷◌, ◌++◌}
 use native.Mathlib.Omega.{arith}
-use native.Mathlib.Decide.{dec_lt}
 use native.Mathlib.Numerals.{add-one}
 use lib.ListN.{length, length-append, get_or, drop, set}
 use lib.Seq.{sets}
-use borrow.Author.Tests.{lt-ltb, le-ltb}
 use Rattle.std.specs.Prelude.{Result, Ok}
-use Rattle.outcome.specs.Outcome.{refused, done}
+use borrow.Author.Rules.{rules}
+use Rattle.outcome.specs.Outcome.{done}
 use Rattle.outcome.specs.Refusal.{said}
 use Rattle.outcome.specs.declared.Refusal.{Refusal}
 use Rattle.sequence_number.specs.Word.{word_at, word_bytes}
@@ -45,52 +44,12 @@ words_read o s at n l h e =
 
 -- the count, by the tests that the code makes
 module _ (size : ℕ) (o : ByteOrder) (s : List ℕ) where
-  pub count_short : length s < size + 4 → refused 1 ≡ read_count size o s
-  count_short h = rw (lt-ltb (length s) (size + 4) h)
-
-  module _ (n : ℕ) (e : n ≡ word_at o s size) (h : size + 4 ≤ length s) where
-    pub count_long : 256 < n → refused 2 ≡ read_count size o s
-    count_long p = rw (le-ltb (length s) (size + 4) h, lt-ltb 256 (word_at o s size) (subst (λ (k : ℕ). 256 < k) e p))
-
-    pub count_cut : n ≤ 256 → length s < set_length size n → refused 1 ≡ read_count size o s
-    count_cut p q =
-        rw (
-          le-ltb (length s) (size + 4) h,
-          le-ltb 256 (word_at o s size) (subst (λ (k : ℕ). k ≤ 256) e p),
-          lt-ltb (length s) (set_length size (word_at o s size)) (subst (λ (k : ℕ). length s < set_length size k) e q),
-        )
-
-    pub count_done : n ≤ 256 → set_length size n ≤ length s → done n ≡ read_count size o s
-    count_done p q =
-        rw (
-          le-ltb (length s) (size + 4) h,
-          le-ltb 256 (word_at o s size) (subst (λ (k : ℕ). k ≤ 256) e p),
-          le-ltb (length s) (set_length size (word_at o s size)) (subst (λ (k : ℕ). set_length size k ≤ length s) e q),
-        )
-        (ap done e)
+  pub count_done : (n : ℕ) → n ≡ word_at o s size → size + 4 ≤ length s → n ≤ 256 → set_length size n ≤ length s → done n ≡ read_count size o s
+  count_done n e h p q = search rules
 
   -- a count that is found is at most 256, and its words are there
   pub count_there : (n : ℕ) → done n ≡ read_count size o s → (n ≤ 256) × (set_length size n ≤ length s)
-  count_there n e = go (dec_lt (length s) (size + 4)) (dec_lt 256 (word_at o s size)) (dec_lt (length s) (set_length size (word_at o s size)))
-    where
-      go : Dec (length s < size + 4) → Dec (256 < word_at o s size) → Dec (length s < set_length size (word_at o s size))
-          → (n ≤ 256) × (set_length size n ≤ length s)
-      go (yes h) a b =
-          let r = count_short h in
-          let z : ◌≡◌ {A = ℕ} 0 1 = cc in
-          absurd (omega arith)
-      go (no h) (yes a) b =
-          let r = count_long (word_at o s size) refl (omega arith) a in
-          let z : ◌≡◌ {A = ℕ} 0 1 = cc in
-          absurd (omega arith)
-      go (no h) (no a) (yes b) =
-          let r = count_cut (word_at o s size) refl (omega arith) (omega arith) b in
-          let z : ◌≡◌ {A = ℕ} 0 1 = cc in
-          absurd (omega arith)
-      go (no h) (no a) (no b) =
-          let r = count_done (word_at o s size) refl (omega arith) (omega arith) (omega arith) in
-          let w : n ≡ word_at o s size = cc in
-          (omega arith, subst (λ (k : ℕ). set_length size k ≤ length s) (sym w) (omega arith))
+  count_there n e = search rules
 
   -- the same of what the code's leaf answers
   pub bits_there : (c : Result ℕ Refusal) (n : ℕ) → said c ≡ read_count size o s → c ≡ Ok n → (n ≤ 256) × (set_length size n ≤ length s)
@@ -126,16 +85,4 @@ length_bits o count ws =
 
 -- what is written was allowed
 pub wrote_means : (size count room : ℕ) {w : Result ℕ Refusal} (n : ℕ) → w ≡ Ok n → said w ≡ write_set size count room → (count ≤ 256) × (set_length size count ≤ room)
-wrote_means size count room {w} n q p = go (dec_lt 256 count) (dec_lt room (set_length size count)) (sym (ap said q) ∙ p)
-  where
-    go : Dec (256 < count) → Dec (room < set_length size count) → done n ≡ write_set size count room → (count ≤ 256) × (set_length size count ≤ room)
-    go (yes h) d e =
-        let r : write_set size count room ≡ refused 2 = rw (lt-ltb 256 count h) in
-        let z : ◌≡◌ {A = ℕ} 0 1 = cc in
-        absurd (omega arith)
-    go (no f) (yes h) e =
-        let g : count ≤ 256 = omega arith in
-        let r : write_set size count room ≡ refused 3 = rw (le-ltb 256 count g, lt-ltb room (set_length size count) h) in
-        let z : ◌≡◌ {A = ℕ} 0 1 = cc in
-        absurd (omega arith)
-    go (no f) (no g) e = (omega arith, omega arith)
+wrote_means size count room {w} n q p = search rules

@@ -2,7 +2,6 @@
 -- Assumes nothing.
 use Rattle.set_words.specs.SetWords.{words_bytes}
 use lib.Seq.{sets}
-use lib.ListN.{length}
 use mathlib.Core.Path.{◌≡◌}
 use Rattle.set_words.proofs.write_words.Given as goal
 
