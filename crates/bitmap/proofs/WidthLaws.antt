@@ -2,8 +2,8 @@
 -- Assumes nothing.
 use Prim.Native.Nat.{ℕ, zero, suc, ◌+◌, ◌*◌, ◌/◌, ◌%◌, ◌^◌, ◌-◌, ◌<◌, max}
 use native.Mathlib.Omega.{arith}
-use native.Mathlib.Decide.{dec_lt, ℕ_discrete}
-use native.Mathlib.Nat.{one-mul, div-eq_of_lt, mod-eq_of_lt, pow-suc, not-suc-le-zero}
+use native.Mathlib.Decide.{ℕ_discrete}
+use native.Mathlib.Nat.{pow-suc, not-suc-le-zero}
 use mathlib.Core.Path.{◌≡◌, ap, ◌∙◌, sym}
 use mathlib.Core.Bool.{Bool, ◌||◌, or-false, or-true}
 use mathlib.Core.Logic.{⊎_elim}
@@ -11,10 +11,13 @@ use mathlib.Core.List.{List}
 use lib.ListN.{length, get_or, set}
 use lib.Seq.{get_or-set_same, get_or-set_other}
 use lib.Dec.{eqb}
-use lib.Pow.{pow-add, shl-shr, shr-shr, pow-lt, pow_pos}
-use lib.Bits.{bit_and, bit_or, or_shr, or_step, or_add_and, and_high}
+use lib.Pow.{pow_pos}
+use lib.Bits.{bit_and, bit_or, or_add_and}
 use lib.Count.{count_trailing_zeros, under}
 use borrow.Author.Tests.{eq-eqb, ne_eqb}
+use Rattle.std.specs.Int.{bit_at}
+use Rattle.std.proofs.lemmas.Nat.{one_shl}
+use Rattle.std.proofs.lemmas.Nat.Bits.{bit_at-suc, bit_at_or, bit_at-pow_same, bit_at-pow_other, and_pow}
 use Rattle.outcome.proofs.Split.{split_eq}
 use Rattle.bitmap.specs.Bitmap.{with_bit}
 
@@ -22,46 +25,9 @@ use Rattle.bitmap.specs.Bitmap.{with_bit}
 
 -- the shift of a one inside a word of k bits loses nothing
 pub one_within : (s k : ℕ) → s < k → 1 * 2 ^ s % 2 ^ k ≡ 2 ^ s
-one_within s k h = ap (λ (x : ℕ). x % 2 ^ k) (one-mul (2 ^ s)) ∙ mod-eq_of_lt (pow-lt h)
-
--- the bit of an "or" is the larger of the two bits
-or_bit : (a b : ℕ) → bit_or a b % 2 ≡ max (a % 2) (b % 2)
-or_bit a b =
-    let e = or_step a b in
-    omega arith
-
--- a power of two has its one bit
-pow_bit_same : (s : ℕ) → 2 ^ s / 2 ^ s % 2 ≡ 1
-pow_bit_same s =
-    let e : 2 ^ s / 2 ^ s ≡ 1 = ap (λ (x : ℕ). x / 2 ^ s) (sym (one-mul (2 ^ s))) ∙ shl-shr 1 s in
-    omega arith
-
-pow_bit_below : (s t : ℕ) → s < t → 2 ^ s / 2 ^ t % 2 ≡ 0
-pow_bit_below s t h =
-    let e : 2 ^ s / 2 ^ t ≡ 0 = div-eq_of_lt (pow-lt h) in
-    omega arith
-
-pow_bit_above : (s t : ℕ) → t < s → 2 ^ s / 2 ^ t % 2 ≡ 0
-pow_bit_above s t h =
-    let k : ℕ = s - suc t in
-    let e : s ≡ (k + 1) + t = omega arith in
-    let f : 2 ^ s / 2 ^ t ≡ 2 ^ (k + 1) = ap (λ (x : ℕ). x / 2 ^ t) (ap (λ (x : ℕ). 2 ^ x) e ∙ pow-add 2 (k + 1) t) ∙ shl-shr (2 ^ (k + 1)) t in
-    let g = pow-add 2 k 1 in
-    omega arith
-
-pow_bit_other : (s t : ℕ) → (s ≡ t → ⊥) → 2 ^ s / 2 ^ t % 2 ≡ 0
-pow_bit_other s t ne = go (dec_lt s t)
-  where
-    go : Dec (s < t) → 2 ^ s / 2 ^ t % 2 ≡ 0
-    go (yes h) = pow_bit_below s t h
-    go (no f) = pow_bit_above s t (omega (arith, ne))
+one_within = one_shl
 
 -- an "or" with a power of two sets its bit
-and_pow : (w s : ℕ) → bit_and w (2 ^ s) ≡ w / 2 ^ s % 2 * 2 ^ s
-and_pow w s =
-    let e : 2 ^ (1 + s) - 2 ^ s ≡ 2 ^ s = omega (arith, pow-add 2 1 s) in
-    ap (bit_and w) (sym e) ∙ and_high w 1 s
-
 pub or_sets : (w s : ℕ) → bit_or w (2 ^ s) ≡ with_bit w s
 or_sets w s = go (ℕ_discrete (w / 2 ^ s % 2) 0)
   where
@@ -80,8 +46,8 @@ or_sets w s = go (ℕ_discrete (w / 2 ^ s % 2) 0)
         c ∙ ap (λ (k : ℕ). w + (1 - k) * 2 ^ s) (sym e)
 
 -- bit t of a word after bit s was set
-pub set_bit_lem : (w s t : ℕ) → with_bit w s / 2 ^ t % 2 ≡ max (w / 2 ^ t % 2) (2 ^ s / 2 ^ t % 2)
-set_bit_lem w s t = ap (λ (x : ℕ). x / 2 ^ t % 2) (sym (or_sets w s)) ∙ ap (λ (x : ℕ). x % 2) (or_shr w (2 ^ s) t) ∙ or_bit (w / 2 ^ t) (2 ^ s / 2 ^ t)
+set_bit_lem : (w s t : ℕ) → bit_at (with_bit w s) t ≡ max (bit_at w t) (bit_at (2 ^ s) t)
+set_bit_lem w s t = ap (λ (x : ℕ). bit_at x t) (sym (or_sets w s)) ∙ bit_at_or w (2 ^ s) t
 
 -- Bits in words of k: bit i stands in word i / k, at a place that tells it from the others of its word.
 module _ (k : ℕ) (place : ℕ → ℕ) (apart : (i j : ℕ) → i / k ≡ j / k → place i ≡ place j → i ≡ j) where
@@ -107,7 +73,7 @@ module _ (k : ℕ) (place : ℕ → ℕ) (apart : (i j : ℕ) → i / k ≡ j / 
     in_word : j / k ≡ i / k → Dec (i ≡ j) → has (with ws i) j ≡ (has ws j || eqb i j)
     in_word e (yes p) =
         let w : ℕ = get_or ws (j / k) 0 in
-        let q : 2 ^ place i / 2 ^ place j % 2 ≡ 1 = ap (λ (n : ℕ). 2 ^ place i / 2 ^ place n % 2) (sym p) ∙ pow_bit_same (place i) in
+        let q : 2 ^ place i / 2 ^ place j % 2 ≡ 1 = ap (λ (n : ℕ). 2 ^ place i / 2 ^ place n % 2) (sym p) ∙ bit_at-pow_same (place i) in
         let b : with_bit w (place i) / 2 ^ place j % 2 ≡ 1 = set_bit_lem w (place i) (place j) ∙ omega arith in
         ap (λ (x : ℕ). eqb (x / 2 ^ place j % 2) 1) (same_word e)
         ∙ ap (λ (x : ℕ). eqb x 1) b
@@ -115,7 +81,7 @@ module _ (k : ℕ) (place : ℕ → ℕ) (apart : (i j : ℕ) → i / k ≡ j / 
         ∙ ap (λ (z : Bool). has ws j || z) (sym (eq-eqb i j p))
     in_word e (no ne) =
         let w : ℕ = get_or ws (j / k) 0 in
-        let q : 2 ^ place i / 2 ^ place j % 2 ≡ 0 = pow_bit_other (place i) (place j) (λ r. ne (apart i j (sym e) r)) in
+        let q : 2 ^ place i / 2 ^ place j % 2 ≡ 0 = bit_at-pow_other (place i) (place j) (λ r. ne (apart i j (sym e) (sym r))) in
         let b : with_bit w (place i) / 2 ^ place j % 2 ≡ w / 2 ^ place j % 2 = set_bit_lem w (place i) (place j) ∙ omega arith in
         ap (λ (x : ℕ). eqb (x / 2 ^ place j % 2) 1) (same_word e)
         ∙ ap (λ (x : ℕ). eqb x 1) b
@@ -132,19 +98,13 @@ module _ (k : ℕ) (place : ℕ → ℕ) (apart : (i j : ℕ) → i / k ≡ j / 
 
 -- ---- the complement
 
--- a bit further on is a bit of the half
-half_bit : (x b : ℕ) → x / 2 ^ suc b % 2 ≡ x / 2 / 2 ^ b % 2
-half_bit x b =
-    let e : suc b ≡ 1 + b = omega arith in
-    ap (λ (n : ℕ). x / 2 ^ n % 2) e ∙ ap (λ (y : ℕ). y % 2) (sym (shr-shr x 1 b))
-
 -- of a word and its complement one has the bit
 pub complement_bit : (k b w c : ℕ) → b < k → c + w ≡ 2 ^ k - 1 → c / 2 ^ b % 2 + w / 2 ^ b % 2 ≡ 1
 complement_bit zero b w c h e = absurd (not-suc-le-zero h)
 complement_bit (suc k) zero w c h e = omega (arith, pow-suc 2 k, pow_pos k)
 complement_bit (suc k) (suc b) w c h e =
     let q : c / 2 + w / 2 ≡ 2 ^ k - 1 = omega (arith, pow-suc 2 k, pow_pos k) in
-    rw (half_bit c b, half_bit w b) (complement_bit k b (w / 2) (c / 2) (omega arith) q)
+    rw (bit_at-suc c b, bit_at-suc w b) (complement_bit k b (w / 2) (c / 2) (omega arith) q)
 
 -- ---- the lowest set bit
 
@@ -161,7 +121,7 @@ below_step x t ih b h =
   where
     even : (b : ℕ) → x % 2 ≡ 0 → b < suc t → x / 2 ^ b % 2 ≡ 0
     even zero e l = omega arith
-    even (suc b) e l = half_bit x b ∙ ih b (omega arith)
+    even (suc b) e l = bit_at-suc x b ∙ ih b (omega arith)
 
 -- below it every bit is 0
 pub trailing_below : (k x b : ℕ) → b < count_trailing_zeros k x → x / 2 ^ b % 2 ≡ 0
@@ -177,7 +137,7 @@ trailing_at (suc k) x p h =
     ⊎_elim
     (λ e.
     let ih = trailing_at k (x / 2) (omega arith) (omega (arith, pow-suc 2 k)) in
-    rw (under_even (x % 2) (count_trailing_zeros k (x / 2)) e) (omega (arith, ih.0), half_bit x (count_trailing_zeros k (x / 2)) ∙ ih.1))
+    rw (under_even (x % 2) (count_trailing_zeros k (x / 2)) e) (omega (arith, ih.0), bit_at-suc x (count_trailing_zeros k (x / 2)) ∙ ih.1))
     (λ n.
     let o : x % 2 ≡ 1 = omega (arith, n) in
     rw (under_odd (x % 2) (count_trailing_zeros k (x / 2)) o) (omega arith, omega arith))

@@ -1,12 +1,11 @@
 // The bits of a set's words: asked, and set from a list of members.
 #![tactic(auto)]
 
-ghost use Rattle.std.specs.Prelude.{◌≡◌, ℕ, ◌-◌, ◌%◌, ◌≤◌, ◌<◌, length, get_or, pos};
-ghost use Rattle.sequence_number.specs.Number.{nat_of};
-ghost use Rattle.bitmap.specs.Bitmap.{has_bit, with_bit};
-ghost use Rattle.bitmap.specs.Marking.{marked_to};
+ghost use Rattle.std.specs.Prelude.{◌≡◌, ◌-◌, ◌%◌, ◌≤◌};
+ghost use Rattle.bitmap.specs.Bitmap.{has_bit, with_bit, zero_words};
+ghost use Rattle.bitmap.specs.Marking.{set_bits};
 
-use sequence_number::number::natural;
+use sequence_number::kind::Number;
 
 // Whether bit i is set, from the most significant bit of word 0.
 pub fn has(words: [u32; 8], i: u32) -> bool
@@ -28,38 +27,17 @@ fn with_mask(w: u32, i: u32) -> u32
 }
 
 // The words of the list's members, by their distance from low, below count.
-pub fn mark_sequence(list: &[i64], low: u64, count: u32) -> [u32; 8]
+pub fn mark<N: Number>(list: &[N], low: N, count: u32) -> [u32; 8]
     requires count_bound { count ≤ 256 }
-    requires by_index { (k : ℕ) → k < length list.now → low ≤ nat_of (get_or list.now k (pos 0)) }
-    ensures { result ≡ marked_to (λ x. nat_of x - low) (pos 0) list.now count (length list.now) }
+    ensures { result ≡ set_bits (N.kind.apart low) count zero_words list.now }
 {
     let mut words = [0u32; 8];
-    let mut j: usize = 0;
-    while j < list.len() {
-        let i = natural(list[j]) - low;
+    for x in list {
+        let i = low.apart(*x);
         if i < count as u64 {
             let k = (i / 32) as usize;
             words[k] = with_mask(words[k], i as u32);
         }
-        j += 1;
-    }
-    words
-}
-
-pub fn mark_fragment(list: &[u32], low: u32, count: u32) -> [u32; 8]
-    requires count_bound { count ≤ 256 }
-    requires by_index { (k : ℕ) → k < length list.now → low ≤ get_or list.now k 0 }
-    ensures { result ≡ marked_to (λ x. x - low) 0 list.now count (length list.now) }
-{
-    let mut words = [0u32; 8];
-    let mut j: usize = 0;
-    while j < list.len() {
-        let i = list[j] - low;
-        if i < count {
-            let k = (i / 32) as usize;
-            words[k] = with_mask(words[k], i);
-        }
-        j += 1;
     }
     words
 }
