@@ -30,132 +30,116 @@ pub record Climbs {A : Type 0} (f : ℕ → A) (from word : ℕ) (out₀ : List 
   pub clean : w ≡ 0 → out ≡ sets out₀ place (map f (positions (word ∷ []) j))
   pub long : length out ≡ length out₀
 
-module _ {A : Type 0} (f : ℕ → A) (from word : ℕ) (out₀ : List A) (place : ℕ) where
-  pub climbs_none : word < 4294967296 → Climbs f from word out₀ place out₀ place word from
-  climbs_none h =
-      record {
-        j = 0;
-        here = omega arith;
-        few = omega arith;
-        rest = omega arith;
-        many = omega arith;
-        loose = λ x. refl;
-        clean = λ e. refl;
-        long = refl;
-      }
+module _ {A : Type 0} {f : ℕ → A} {from word : ℕ} {out₀ : List A} {place : ℕ} {out : List A} {n w i : ℕ} (l : Climbs f from word out₀ place out n w i) where
+  -- what is left of the word has what is left of its members
+  pub parts : word_positions word ≡ positions (word ∷ []) l.j ++ map (λ (k : ℕ). l.j + k) (word_positions w)
+  parts =
+      positions_shifted word l.j l.few
+      ∙ ap (λ (x : ℕ). positions (word ∷ []) l.j ++ map (λ (k : ℕ). l.j + k) (word_positions x)) (sym l.rest)
 
-  module _ (out : List A) (n w i : ℕ) (l : Climbs f from word out₀ place out n w i) where
-    -- what is left of the word has what is left of its members
-    pub parts : word_positions word ≡ positions (word ∷ []) l.j ++ map (λ (k : ℕ). l.j + k) (word_positions w)
-    parts =
-        positions_shifted word l.j l.few
-        ∙ ap (λ (x : ℕ). positions (word ∷ []) l.j ++ map (λ (k : ℕ). l.j + k) (word_positions x)) (sym l.rest)
+  pub small : w < 4294967296
+  small = omega (arith, l.rest)
 
-    pub small : w < 4294967296
-    small = omega (arith, l.rest)
+  pub climbs_more : 0 < w → l.j < 32
+  climbs_more p = go (dec_lt l.j 32)
+    where
+      go : Dec (l.j < 32) → l.j < 32
+      go (yes h) = h
+      go (no h) =
+          let e : l.j ≡ 32 = omega (arith, h, l.few) in
+          let z : w ≡ 0 = l.rest ∙ ap (λ (k : ℕ). word * 2 ^ k % 4294967296) e ∙ mul-mod_left word 4294967296 in
+          absurd (omega arith)
 
-    pub climbs_more : 0 < w → l.j < 32
-    climbs_more p = go (dec_lt l.j 32)
-      where
-        go : Dec (l.j < 32) → l.j < 32
-        go (yes h) = h
-        go (no h) =
-            let e : l.j ≡ 32 = omega (arith, h, l.few) in
-            let z : w ≡ 0 = l.rest ∙ ap (λ (k : ℕ). word * 2 ^ k % 4294967296) e ∙ mul-mod_left word 4294967296 in
-            absurd (omega arith)
+  pub climbs_room : 0 < w → n < place + length (word_positions word)
+  climbs_room p =
+      let a = ap length parts in
+      let b = length-append (positions (word ∷ []) l.j) (map (λ (k : ℕ). l.j + k) (word_positions w)) in
+      let d = length-map (word_positions w) (λ (k : ℕ). l.j + k) in
+      omega (arith, l.many, some_in w p small)
 
-    pub climbs_room : 0 < w → n < place + length (word_positions word)
-    climbs_room p =
-        let a = ap length parts in
-        let b = length-append (positions (word ∷ []) l.j) (map (λ (k : ℕ). l.j + k) (word_positions w)) in
-        let d = length-map (word_positions w) (λ (k : ℕ). l.j + k) in
-        omega (arith, l.many, some_in w p small)
+  -- a member still to come fits
+  pub climbs_fits : (fits : ℕ → Bool) → 0 < w → any_past fits (word_positions word) ≡ false → (k : ℕ) × (fits (l.j + k) ≡ true)
+  climbs_fits fits p e = first (word_positions w) (some_in w p small) (neither (any_past fits (positions (word ∷ []) l.j)) _ (sym split ∙ e)).1
+    where
+      split : any_past fits (word_positions word) ≡ (any_past fits (positions (word ∷ []) l.j) || any_past fits (map (λ (k : ℕ). l.j + k) (word_positions w)))
+      split = ap (any_past fits) parts ∙ past_append fits (positions (word ∷ []) l.j) (map (λ (k : ℕ). l.j + k) (word_positions w))
 
-    -- a member still to come fits
-    pub climbs_fits : (fits : ℕ → Bool) → 0 < w → any_past fits (word_positions word) ≡ false → (k : ℕ) × (fits (l.j + k) ≡ true)
-    climbs_fits fits p e = first (word_positions w) (some_in w p small) (neither (any_past fits (positions (word ∷ []) l.j)) _ (sym split ∙ e)).1
-      where
-        split : any_past fits (word_positions word) ≡ (any_past fits (positions (word ∷ []) l.j) || any_past fits (map (λ (k : ℕ). l.j + k) (word_positions w)))
-        split = ap (any_past fits) parts ∙ past_append fits (positions (word ∷ []) l.j) (map (λ (k : ℕ). l.j + k) (word_positions w))
+      first : (ps : List ℕ) → 0 < length ps → any_past fits (map (λ (k : ℕ). l.j + k) ps) ≡ false → (k : ℕ) × (fits (l.j + k) ≡ true)
+      first [] h z = absurd (omega arith)
+      first (k ∷ ps) h z = (k, not-false (fits (l.j + k)) (neither (not (fits (l.j + k))) (any_past fits (map (λ (q : ℕ). l.j + q) ps)) z).0)
 
-        first : (ps : List ℕ) → 0 < length ps → any_past fits (map (λ (k : ℕ). l.j + k) ps) ≡ false → (k : ℕ) × (fits (l.j + k) ≡ true)
-        first [] h z = absurd (omega arith)
-        first (k ∷ ps) h z = (k, not-false (fits (l.j + k)) (neither (not (fits (l.j + k))) (any_past fits (map (λ (q : ℕ). l.j + q) ps)) z).0)
+  same_bit : l.j < 32 → has_bit (word ∷ []) l.j ≡ eqb (w / 2147483648 % 2) 1
+  same_bit h =
+      ap (has_bit (word ∷ [])) (sym (add-zero l.j))
+      ∙ shifted_bit word l.j 0 (omega arith)
+      ∙ ap (λ (x : ℕ). has_bit (x ∷ []) 0) (sym l.rest)
 
-    same_bit : l.j < 32 → has_bit (word ∷ []) l.j ≡ eqb (w / 2147483648 % 2) 1
-    same_bit h =
-        ap (has_bit (word ∷ [])) (sym (add-zero l.j))
-        ∙ shifted_bit word l.j 0 (omega arith)
-        ∙ ap (λ (x : ℕ). has_bit (x ∷ []) 0) (sym l.rest)
+  next : w * 2 % 4294967296 ≡ word * 2 ^ (l.j + 1) % 4294967296
+  next =
+      let e : word * 2 ^ (l.j + 1) ≡ word * 2 ^ l.j * 2 = ap (λ (x : ℕ). word * x) (pow-add 2 l.j 1) ∙ sym (mul_assoc word (2 ^ l.j) 2) in
+      let r = l.rest in
+      omega arith
 
-    next : w * 2 % 4294967296 ≡ word * 2 ^ (l.j + 1) % 4294967296
-    next =
-        let e : word * 2 ^ (l.j + 1) ≡ word * 2 ^ l.j * 2 = ap (λ (x : ℕ). word * x) (pow-add 2 l.j 1) ∙ sym (mul_assoc word (2 ^ l.j) 2) in
-        let r = l.rest in
-        omega arith
+  pub climbs_step : 0 < w → Climbs f from word out₀ place (set out n (f l.j)) (n + w / 2147483648) (w * 2 % 4294967296) (i + 1)
+  climbs_step p = go (dec_lt (w / 2147483648) 1)
+    where
+      ps : List ℕ
+      ps = positions (word ∷ []) l.j
 
-    pub climbs_step : 0 < w → Climbs f from word out₀ place (set out n (f l.j)) (n + w / 2147483648) (w * 2 % 4294967296) (i + 1)
-    climbs_step p = go (dec_lt (w / 2147483648) 1)
-      where
-        ps : List ℕ
-        ps = positions (word ∷ []) l.j
+      kept : length (set out n (f l.j)) ≡ length out₀
+      kept = length-set out n (f l.j) ∙ l.long
 
-        kept : length (set out n (f l.j)) ≡ length out₀
-        kept = length-set out n (f l.j) ∙ l.long
+      lost : w / 2147483648 < 1 → w * 2 % 4294967296 ≡ 0 → ⊥
+      lost q z =
+          let e : w * 2 % 4294967296 ≡ w * 2 = mod-eq_of_lt (omega arith) in
+          omega arith
 
-        lost : w / 2147483648 < 1 → w * 2 % 4294967296 ≡ 0 → ⊥
-        lost q z =
-            let e : w * 2 % 4294967296 ≡ w * 2 = mod-eq_of_lt (omega arith) in
-            omega arith
+      go : Dec (w / 2147483648 < 1) → Climbs f from word out₀ place (set out n (f l.j)) (n + w / 2147483648) (w * 2 % 4294967296) (i + 1)
+      go (yes q) =
+          let b : has_bit (word ∷ []) l.j ≡ false = same_bit (climbs_more p) ∙ ne_eqb (w / 2147483648 % 2) 1 (λ e. omega (arith, e)) in
+          let s : positions (word ∷ []) (l.j + 1) ≡ ps = positions_no (word ∷ []) l.j b in
+          let e : n + w / 2147483648 ≡ n = omega arith in
+          record {
+            j = l.j + 1;
+            here = omega (arith, l.here);
+            few = omega (arith, climbs_more p);
+            rest = next;
+            many = omega (arith, l.many, ap length s);
+            loose = λ x.
+                ap (λ (m : ℕ). set (set out n (f l.j)) m x) e
+                ∙ set-set out n (f l.j) x
+                ∙ l.loose x
+                ∙ ap (λ (qs : List ℕ). sets out₀ place (map f qs ++ (x ∷ []))) (sym s);
+            clean = λ z. absurd (lost q z);
+            long = kept;
+          }
+      go (no q) =
+          let b : has_bit (word ∷ []) l.j ≡ true = same_bit (climbs_more p) ∙ eq-eqb (w / 2147483648 % 2) 1 (omega (arith, q, small)) in
+          let s : positions (word ∷ []) (l.j + 1) ≡ ps ++ (l.j ∷ []) = positions_yes (word ∷ []) l.j b in
+          let t : map f (positions (word ∷ []) (l.j + 1)) ≡ map f ps ++ (f l.j ∷ []) = ap (map f) s ∙ map-append f ps (l.j ∷ []) in
+          let stored : set out n (f l.j) ≡ sets out₀ place (map f (positions (word ∷ []) (l.j + 1))) = l.loose (f l.j) ∙ ap (sets out₀ place) (sym t) in
+          let e : n + w / 2147483648 ≡ place + length (map f (positions (word ∷ []) (l.j + 1))) =
+          omega (arith, q, small, l.many, length_more (word ∷ []) l.j b, length-map (positions (word ∷ []) (l.j + 1)) f) in
+          record {
+            j = l.j + 1;
+            here = omega (arith, l.here);
+            few = omega (arith, climbs_more p);
+            rest = next;
+            many = e ∙ ap (λ (m : ℕ). place + m) (length-map (positions (word ∷ []) (l.j + 1)) f);
+            loose = λ x. (λ k. set (stored k) (e k) x) ∙ sets_append (map f (positions (word ∷ []) (l.j + 1))) (x ∷ []) out₀ place;
+            clean = λ z. stored;
+            long = kept;
+          }
 
-        go : Dec (w / 2147483648 < 1) → Climbs f from word out₀ place (set out n (f l.j)) (n + w / 2147483648) (w * 2 % 4294967296) (i + 1)
-        go (yes q) =
-            let b : has_bit (word ∷ []) l.j ≡ false = same_bit (climbs_more p) ∙ ne_eqb (w / 2147483648 % 2) 1 (λ e. omega (arith, e)) in
-            let s : positions (word ∷ []) (l.j + 1) ≡ ps = positions_no (word ∷ []) l.j b in
-            let e : n + w / 2147483648 ≡ n = omega arith in
-            record {
-              j = l.j + 1;
-              here = omega (arith, l.here);
-              few = omega (arith, climbs_more p);
-              rest = next;
-              many = omega (arith, l.many, ap length s);
-              loose = λ x.
-                  ap (λ (m : ℕ). set (set out n (f l.j)) m x) e
-                  ∙ set-set out n (f l.j) x
-                  ∙ l.loose x
-                  ∙ ap (λ (qs : List ℕ). sets out₀ place (map f qs ++ (x ∷ []))) (sym s);
-              clean = λ z. absurd (lost q z);
-              long = kept;
-            }
-        go (no q) =
-            let b : has_bit (word ∷ []) l.j ≡ true = same_bit (climbs_more p) ∙ eq-eqb (w / 2147483648 % 2) 1 (omega (arith, q, small)) in
-            let s : positions (word ∷ []) (l.j + 1) ≡ ps ++ (l.j ∷ []) = positions_yes (word ∷ []) l.j b in
-            let t : map f (positions (word ∷ []) (l.j + 1)) ≡ map f ps ++ (f l.j ∷ []) = ap (map f) s ∙ map-append f ps (l.j ∷ []) in
-            let stored : set out n (f l.j) ≡ sets out₀ place (map f (positions (word ∷ []) (l.j + 1))) = l.loose (f l.j) ∙ ap (sets out₀ place) (sym t) in
-            let e : n + w / 2147483648 ≡ place + length (map f (positions (word ∷ []) (l.j + 1))) =
-            omega (arith, q, small, l.many, length_more (word ∷ []) l.j b, length-map (positions (word ∷ []) (l.j + 1)) f) in
-            record {
-              j = l.j + 1;
-              here = omega (arith, l.here);
-              few = omega (arith, climbs_more p);
-              rest = next;
-              many = e ∙ ap (λ (m : ℕ). place + m) (length-map (positions (word ∷ []) (l.j + 1)) f);
-              loose = λ x. (λ k. set (stored k) (e k) x) ∙ sets_append (map f (positions (word ∷ []) (l.j + 1))) (x ∷ []) out₀ place;
-              clean = λ z. stored;
-              long = kept;
-            }
+-- the same, where g is the number of a position
+abbrev pub At : {A : Type 0} → (ℕ → A) → ℕ → ℕ → List A → ℕ → List A → ℕ → ℕ → ℕ → Type 0
+At g from = Climbs (λ (k : ℕ). g (from + k)) from
 
-    -- the same, by what a call gave
-    climbs_next : (out' : List A) (n' w' i' : ℕ) → out' ≡ set out n (f l.j) → n' ≡ n + w / 2147483648 → w' ≡ w * 2 % 4294967296 → i' ≡ i + 1 → 0 < w
-        → Climbs f from word out₀ place out' n' w' i'
-    climbs_next out' n' w' i' p q r s h = rw (p, q, r, s) (climbs_step h)
-
--- a step, where g is the number of a position
-pub climbs_by : {A : Type 0} (g : ℕ → A) (from word : ℕ) (out₀ : List A) (place : ℕ) (out : List A) (n w i : ℕ)
-    → Climbs (λ (k : ℕ). g (from + k)) from word out₀ place out n w i → (out' : List A) (n' w' i' : ℕ) → out' ≡ set out n (g i) → n' ≡ n + w / 2147483648
-    → w' ≡ w * 2 % 4294967296 → i' ≡ i + 1 → 0 < w → Climbs (λ (k : ℕ). g (from + k)) from word out₀ place out' n' w' i'
-climbs_by g from word out₀ place out n w i l out' n' w' i' p q r s h =
-    climbs_next (λ (k : ℕ). g (from + k)) from word out₀ place out n w i l out' n' w' i' (p ∙ ap (λ (m : ℕ). set out n (g m)) l.here) q r s h
+-- a step by what a call gave
+pub climbs_by : {A : Type 0} (g : ℕ → A) {from word : ℕ} {out₀ : List A} {place : ℕ} {out : List A} {n w i : ℕ} → At g from word out₀ place out n w i
+    → {out' : List A} {n' w' i' : ℕ} → out' ≡ set out n (g i) → n' ≡ n + w / 2147483648 → w' ≡ w * 2 % 4294967296 → i' ≡ i + 1 → 0 < w
+    → At g from word out₀ place out' n' w' i'
+climbs_by g {out = out} {n = n} l p q r s h = rw (p ∙ ap (λ (m : ℕ). set out n (g m)) l.here, q, r, s) (climbs_step l h)
 
 -- a shift and one more
 pub shift_more : (x y v : ℕ) → v ≡ x % 4294967296 → y ≡ x * 2 → y % 4294967296 ≡ v * 2 % 4294967296
@@ -175,29 +159,18 @@ left_four w t =
     before x y e h = omega arith
 
 -- the four steps of a turn
-module _ {A : Type 0} (g : ℕ → A) (from word : ℕ) (out₀ : List A) (place w : ℕ) (t : 0 < w * 16 % 4294967296) where
-  -- the word is walked so far
-  abbrev pub At : List A → ℕ → ℕ → ℕ → Type 0
-  At = Climbs (λ (k : ℕ). g (from + k)) from word out₀ place
+module _ {A : Type 0} (g : ℕ → A) {from word : ℕ} {out₀ : List A} {place w : ℕ} (t : 0 < w * 16 % 4294967296) where
+  module _ {out : List A} {n i : ℕ} (l : At g from word out₀ place out n w i) {out1 : List A} {n1 : ℕ} (p : out1 ≡ set out n (g i)) (q : n1 ≡ n + w / 2147483648) where
+    pub climbs_one : At g from word out₀ place out1 n1 (w * 2 % 4294967296) (i + 1)
+    climbs_one = climbs_by g l p q refl refl (left_four w t).0
 
-  pub climbs_one : (out : List A) (n i : ℕ) → At out n w i → (out' : List A) (n' : ℕ) → out' ≡ set out n (g i) → n' ≡ n + w / 2147483648
-      → At out' n' (w * 2 % 4294967296) (i + 1)
-  climbs_one out n i l out' n' p q = climbs_by g from word out₀ place out n w i l out' n' (w * 2 % 4294967296) (i + 1) p q refl refl (left_four w t).0
+    module _ {out2 : List A} {n2 : ℕ} (p2 : out2 ≡ set out1 n1 (g (i + 1))) (q2 : n2 ≡ n1 + w * 2 % 4294967296 / 2147483648) where
+      pub climbs_two : At g from word out₀ place out2 n2 (w * 4 % 4294967296) (i + 2)
+      climbs_two = climbs_by g climbs_one p2 q2 (shift_more (w * 2) (w * 4) (w * 2 % 4294967296) refl (omega arith)) (omega arith) (left_four w t).1
 
-  pub climbs_two : (out : List A) (n i : ℕ) → At out n (w * 2 % 4294967296) (i + 1) → (out' : List A) (n' : ℕ) → out' ≡ set out n (g (i + 1))
-      → n' ≡ n + w * 2 % 4294967296 / 2147483648 → At out' n' (w * 4 % 4294967296) (i + 2)
-  climbs_two out n i l out' n' p q =
-      climbs_by g from word out₀ place out n (w * 2 % 4294967296) (i + 1) l out' n' (w * 4 % 4294967296) (i + 2) p q
-      (shift_more (w * 2) (w * 4) (w * 2 % 4294967296) refl (omega arith)) (omega arith) (left_four w t).1
+      module _ {out3 : List A} {n3 : ℕ} (p3 : out3 ≡ set out2 n2 (g (i + 2))) (q3 : n3 ≡ n2 + w * 4 % 4294967296 / 2147483648) where
+        pub climbs_three : At g from word out₀ place out3 n3 (w * 8 % 4294967296) (i + 3)
+        climbs_three = climbs_by g climbs_two p3 q3 (shift_more (w * 4) (w * 8) (w * 4 % 4294967296) refl (omega arith)) (omega arith) (left_four w t).2
 
-  pub climbs_three : (out : List A) (n i : ℕ) → At out n (w * 4 % 4294967296) (i + 2) → (out' : List A) (n' : ℕ) → out' ≡ set out n (g (i + 2))
-      → n' ≡ n + w * 4 % 4294967296 / 2147483648 → At out' n' (w * 8 % 4294967296) (i + 3)
-  climbs_three out n i l out' n' p q =
-      climbs_by g from word out₀ place out n (w * 4 % 4294967296) (i + 2) l out' n' (w * 8 % 4294967296) (i + 3) p q
-      (shift_more (w * 4) (w * 8) (w * 4 % 4294967296) refl (omega arith)) (omega arith) (left_four w t).2
-
-  pub climbs_four : (out : List A) (n i : ℕ) → At out n (w * 8 % 4294967296) (i + 3) → (out' : List A) (n' : ℕ) → out' ≡ set out n (g (i + 3))
-      → n' ≡ n + w * 8 % 4294967296 / 2147483648 → At out' n' (w * 16 % 4294967296) (i + 4)
-  climbs_four out n i l out' n' p q =
-      climbs_by g from word out₀ place out n (w * 8 % 4294967296) (i + 3) l out' n' (w * 16 % 4294967296) (i + 4) p q
-      (shift_more (w * 8) (w * 16) (w * 8 % 4294967296) refl (omega arith)) (omega arith) (left_four w t).3
+        pub climbs_four : {out4 : List A} {n4 : ℕ} → out4 ≡ set out3 n3 (g (i + 3)) → n4 ≡ n3 + w * 8 % 4294967296 / 2147483648 → At g from word out₀ place out4 n4 (w * 16 % 4294967296) (i + 4)
+        climbs_four p4 q4 = climbs_by g climbs_three p4 q4 (shift_more (w * 8) (w * 16) (w * 8 % 4294967296) refl (omega arith)) (omega arith) (left_four w t).3

@@ -3,7 +3,7 @@
 use Prim.Native.Nat.{ℕ, ◌+◌, ◌*◌, ◌-◌, ◌<◌, ◌≤◌, min}
 use mathlib.Core.Path.{◌≡◌, refl, ap, ◌∙◌, sym, subst}
 use mathlib.Core.Bool.{true, false}
-use mathlib.Core.List.{List, [], ◌∷◌, ◌++◌, map, reverse, reverse-cons, reverse-append, append-nil, append_assoc, map-append, map-map}
+use mathlib.Core.List.{List, [], ◌∷◌, ◌++◌, map, reverse, reverse-cons, reverse-append, append_assoc, map-append, map-map}
 use native.Mathlib.Omega.{arith}
 use lib.ListN.{length, length-append, length-map, length-reverse, get_or, set}
 use lib.Seq.{sets, length-sets, append_snoc}
@@ -18,10 +18,6 @@ reverse_map f [] = refl
 reverse_map f (x ∷ xs) =
     ap (map f) (reverse-cons x xs) ∙ map-append f (reverse xs) (x ∷ []) ∙ ap (λ (l : List _). l ++ (f x ∷ [])) (reverse_map f xs) ∙ sym (reverse-cons (f x) (map f xs))
 
--- no word is left
-pub none_below : (ws : List ℕ) (count k : ℕ) → k ≤ 0 → positions ws (min (32 * k) count) ≡ []
-none_below ws count k h = let e : min (32 * k) count ≡ 0 = omega arith in ap (positions ws) e
-
 -- the members from i on, rest, are written, the highest first, from a place on
 pub record Falling {A : Type 0} (f : ℕ → A) (ws : List ℕ) (count : ℕ) (out₀ : List A) (place : ℕ) (out : List A) (n i : ℕ) : Type 0 where
   pub rest : List ℕ
@@ -29,20 +25,8 @@ pub record Falling {A : Type 0} (f : ℕ → A) (ws : List ℕ) (count : ℕ) (o
   pub many : n ≡ place + length rest
   pub stored : out ≡ sets out₀ place (map f (reverse rest))
 
-module _ {A : Type 0} (f : ℕ → A) (ws : List ℕ) (count : ℕ) (out₀ : List A) (place : ℕ) where
-  pub falling_none : Falling f ws count out₀ place out₀ place count
-  falling_none = record { rest = []; whole = sym (append-nil (positions ws count)); many = omega arith; stored = refl }
-
-  -- all words are still to come
-  pub falling_all : (k : ℕ) → count ≤ 32 * k → Falling f ws count out₀ place out₀ place (min (32 * k) count)
-  falling_all k h = let e : count ≡ min (32 * k) count = omega arith in subst (λ (i : ℕ). Falling f ws count out₀ place out₀ place i) e falling_none
-
-  -- the last word that is still to come
-  pub falling_at : (out : List A) (n k : ℕ) → 0 < k → Falling f ws count out₀ place out n (min (32 * k) count)
-      → Falling f ws count out₀ place out n (min (32 * ((k - 1) + 1)) count)
-  falling_at out n k h l = let e : min (32 * k) count ≡ min (32 * ((k - 1) + 1)) count = omega arith in subst (λ (i : ℕ). Falling f ws count out₀ place out n i) e l
-
-  module _ (out : List A) (n i : ℕ) (l : Falling f ws count out₀ place out n i) where
+module _ {A : Type 0} {f : ℕ → A} {ws : List ℕ} {count : ℕ} {out₀ : List A} {place : ℕ} where
+  module _ {out : List A} {n i : ℕ} (l : Falling f ws count out₀ place out n i) where
     pub falling_long : length out ≡ length out₀
     falling_long = ap length l.stored ∙ length-sets out₀ place (map f (reverse l.rest))
 
@@ -86,44 +70,44 @@ module _ {A : Type 0} (f : ℕ → A) (ws : List ℕ) (count : ℕ) (out₀ : Li
           omega (arith, l.many, falling_long)
 
     -- where none is left
-    pub falling_done : positions ws i ≡ [] → (n ≡ place + length (positions ws count)) × (out ≡ sets out₀ place (map f (reverse (positions ws count))))
+    pub falling_done : positions ws i ≡ []
+        → record { value : n ≡ place + length (positions ws count); out_after : out ≡ sets out₀ place (map f (reverse (positions ws count))) }
     falling_done e =
         let w : positions ws count ≡ l.rest = l.whole ∙ ap (λ (ps : List ℕ). ps ++ l.rest) e in
-        (l.many ∙ ap (λ (ps : List ℕ). place + length ps) (sym w), l.stored ∙ ap (λ (ps : List ℕ). sets out₀ place (map f (reverse ps))) (sym w))
+        record {
+          value = l.many ∙ ap (λ (ps : List ℕ). place + length ps) (sym w);
+          out_after = l.stored ∙ ap (λ (ps : List ℕ). sets out₀ place (map f (reverse ps))) (sym w);
+        }
 
-  module _ (k w : ℕ) (h : 32 * k < count) (first : FirstBits (get_or ws k 0) (count - 32 * k) w) (out : List A) (n : ℕ)
-      (before : Falling f ws count out₀ place out n (min (32 * (k + 1)) count)) where
+  module _ (k w : ℕ) (h : 32 * k < count) (first : FirstBits (get_or ws k 0) (count - 32 * k) w) {out : List A} {n j : ℕ} (last : j ≡ k + 1)
+      (before : Falling f ws count out₀ place out n (min (32 * j) count)) where
     here : Falling f ws count out₀ place out n (min (32 * k + 32) count)
     here =
-        let e : min (32 * (k + 1)) count ≡ min (32 * k + 32) count = omega arith in
+        let e : min (32 * j) count ≡ min (32 * k + 32) count = omega arith in
         subst (λ (i : ℕ). Falling f ws count out₀ place out n i) e before
 
     pub falling_word_room : place + length (positions ws count) ≤ length out₀ → n + length (word_positions w) ≤ length out
     falling_word_room r =
         let a = ap length here.whole in
         let b = length-append (positions ws (min (32 * k + 32) count)) here.rest in
-        omega (arith, here.many, lengths ws k count w h first, falling_long out n (min (32 * k + 32) count) here)
+        omega (arith, here.many, lengths ws k count w h first, falling_long here)
 
-    falling_next : (out' : List A) (n' : ℕ) → n' ≡ n + length (word_positions w)
-        → out' ≡ sets out n (map (λ (i : ℕ). f (32 * k + i)) (reverse (word_positions w))) → Falling f ws count out₀ place out' n' (32 * k)
-    falling_next out' n' e p =
+    pub falling_word : {out' : List A} {n' : ℕ} → n' ≡ n + length (word_positions w)
+        → out' ≡ sets out n (map (λ (i : ℕ). f (32 * k + i)) (reverse (word_positions w))) → Falling f ws count out₀ place out' n' (min (32 * k) count)
+    falling_word {out'} {n'} e p =
         let q : List ℕ = word_positions w in
         let g : ℕ → ℕ = λ i. 32 * k + i in
-        record {
+        let next : 32 * k ≡ min (32 * k) count = omega arith in
+        subst (λ (i : ℕ). Falling f ws count out₀ place out' n' i) next
+        (record {
           rest = map g q ++ here.rest;
           whole =
               here.whole ∙ ap (λ (ps : List ℕ). ps ++ here.rest) (positions_word ws k count w h first) ∙ append_assoc (positions ws (32 * k)) (map g q) here.rest;
           many = omega (arith, here.many, length-append (map g q) here.rest, length-map q g);
           stored =
-              sets_sets out₀ out out' (map f (reverse here.rest)) (map (λ (i : ℕ). f (32 * k + i)) (reverse q)) place n (ends out n (min (32 * k + 32) count) here) here.stored p
+              sets_sets out₀ out out' (map f (reverse here.rest)) (map (λ (i : ℕ). f (32 * k + i)) (reverse q)) place n (ends here) here.stored p
               ∙ ap (sets out₀ place)
               (ap (λ (x : List A). map f (reverse here.rest) ++ x) (sym (map-map f g (reverse q)) ∙ ap (map f) (reverse_map g q))
               ∙ sym (map-append f (reverse here.rest) (reverse (map g q)))
               ∙ ap (map f) (sym (reverse-append (map g q) here.rest)));
-        }
-
-    pub falling_word : (out' : List A) (n' : ℕ) → n' ≡ n + length (word_positions w)
-        → out' ≡ sets out n (map (λ (i : ℕ). f (32 * k + i)) (reverse (word_positions w))) → Falling f ws count out₀ place out' n' (min (32 * k) count)
-    falling_word out' n' e p =
-        let next : 32 * k ≡ min (32 * k) count = omega arith in
-        subst (λ (i : ℕ). Falling f ws count out₀ place out' n' i) next (falling_next out' n' e p)
+        })

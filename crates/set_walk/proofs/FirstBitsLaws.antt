@@ -5,7 +5,6 @@ use mathlib.Core.Bool.{Bool, false, ◌&&◌}
 use mathlib.Core.List.{List, [], ◌∷◌, ◌++◌, map}
 use native.Mathlib.Omega.{arith}
 use native.Mathlib.Decide.{dec_lt}
-use native.Mathlib.Nat.{zero-div}
 use lib.ListN.{length, get_or, length-append, length-map}
 use lib.Dec.{eqb, ltb}
 use lib.Pow.{shr-shr}
@@ -20,13 +19,6 @@ use Rattle.set_walk.proofs.WordBitLaws.{positions_join, positions_none, has_one,
 -- the first m bits of a word
 abbrev pub FirstBits : ℕ → ℕ → ℕ → Type 0
 FirstBits w m r = (i : ℕ) → i < 32 → has_bit (r ∷ []) i ≡ (ltb i m && has_bit (w ∷ []) i)
-
-pub first_all : (w m : ℕ) → 32 ≤ m → FirstBits w m w
-first_all w m h i p = ap (λ (b : Bool). b && has_bit (w ∷ []) i) (sym (lt-ltb i m (omega arith)))
-
-pub first_none : (w m : ℕ) → m ≡ 0 → FirstBits w m 0
-first_none w m h i p =
-    has_one 0 i p ∙ ap (λ (x : ℕ). eqb (x % 2) 1) (zero-div (2 ^ (31 - i))) ∙ ap (λ (b : Bool). b && has_bit (w ∷ []) i) (sym (le-ltb i m (omega arith)))
 
 pub first_some : (w m s : ℕ) → 0 < m → s ≡ 32 - m → m < 32 → FirstBits w m (w / 2 ^ s * 2 ^ s % 4294967296)
 first_some w m s g q h i p = go (dec_lt i m)
