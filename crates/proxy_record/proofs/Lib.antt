@@ -7,4 +7,5 @@ pub mod ColumnLaws
 pub mod PartLaws
 pub mod WordsLaws
 pub mod RulesLaws
+pub mod RankLaws
 pub mod RowLaws

@@ -5,7 +5,7 @@ use native.Mathlib.Nat.{le_of_suc-le-suc, not-suc-le-zero}
 use mathlib.Core.Logic.{◌⊎◌, inl, inr, ⊎_elim, ◌↔◌}
 use mathlib.Core.Path.{◌≡◌, refl, ap}
 use mathlib.Core.Bool.{true, false, cond}
-use mathlib.Core.Option.{none, some}
+use Rattle.std.specs.Prelude.{Some, None}
 use mathlib.Core.List.{List, [], ◌∷◌, ◌++◌}
 use lib.ListN.{length, get_or}
 use lib.Dec.{ltb, leb, eqb}
@@ -49,7 +49,7 @@ untracked_low lo hi n (x ∷ l) r h =
     let k : n < suc x.number = omega (arith, r.0) in
     untracked_cons n x l (λ e. omega arith) (untracked_low (suc x.number) hi n l r.2 k)
 
-pub look_low : (lo hi n : ℕ) (l : List Entry) → RisingEntries lo hi l → n < lo → look n l ≡ none
+pub look_low : (lo hi n : ℕ) (l : List Entry) → RisingEntries lo hi l → n < lo → look n l ≡ None
 unfolding look
 look_low lo hi n [] r h = refl
 look_low lo hi n (x ∷ l) r h =
@@ -59,8 +59,8 @@ look_low lo hi n (x ∷ l) r h =
 
 -- whether n is tracked, and its rank's step, in one
 pub rank_next : (lo hi n : ℕ) (l : List Entry) → RisingEntries lo hi l
-    → ((look n l ≡ some (get_or l (rank n l) blank_entry).mark) × (rank (suc n) l ≡ suc (rank n l)) × (rank n l < length l) × ((get_or l (rank n l) blank_entry).number ≡ n))
-    ⊎ ((look n l ≡ none) × (rank (suc n) l ≡ rank n l) × (rank n l < length l → (get_or l (rank n l) blank_entry).number ≡ n → ⊥))
+    → ((look n l ≡ Some (get_or l (rank n l) blank_entry).mark) × (rank (suc n) l ≡ suc (rank n l)) × (rank n l < length l) × ((get_or l (rank n l) blank_entry).number ≡ n))
+    ⊎ ((look n l ≡ None) × (rank (suc n) l ≡ rank n l) × (rank n l < length l → (get_or l (rank n l) blank_entry).number ≡ n → ⊥))
 unfolding look below
 rank_next lo hi n [] r = inr (refl, refl, λ h. absurd (not-suc-le-zero h))
 rank_next lo hi n (x ∷ l) r =
@@ -96,7 +96,7 @@ unfolding look below
 look_below m n [] h = refl
 look_below m n (x ∷ l) h =
     ⊎_elim
-    (λ a. rw (lt-ltb x.number n a) (ap (cond (eqb x.number m) (some x.mark)) (look_below m n l h)))
+    (λ a. rw (lt-ltb x.number n a) (ap (cond (eqb x.number m) (Some x.mark)) (look_below m n l h)))
     (λ a.
     let z : x.number ≡ m → ⊥ = λ e. omega arith in
     rw (le-ltb x.number n a, ne_eqb x.number m z) (look_below m n l h))
@@ -110,10 +110,10 @@ look_from m n (x ∷ l) h =
     (λ a.
     let z : x.number ≡ m → ⊥ = λ e. omega arith in
     rw (lt-leb n x.number a, ne_eqb x.number m z) (look_from m n l h))
-    (λ a. rw (le-leb n x.number a) (ap (cond (eqb x.number m) (some x.mark)) (look_from m n l h)))
+    (λ a. rw (le-leb n x.number a) (ap (cond (eqb x.number m) (Some x.mark)) (look_from m n l h)))
     (split_lt x.number n)
 
-pub look_gone : (m n : ℕ) (l : List Entry) → m < n → look m (from n l) ≡ none
+pub look_gone : (m n : ℕ) (l : List Entry) → m < n → look m (from n l) ≡ None
 unfolding look from
 look_gone m n [] h = refl
 look_gone m n (x ∷ l) h =
@@ -136,12 +136,12 @@ look_past m n (x ∷ l) r h =
     (λ a. rw (le-ltb x.number n a) (look_past m n l r h))
     (split_lt x.number n)
 
-pub look_before : (m : ℕ) (x r : List Entry) → look m r ≡ none → look m (x ++ r) ≡ look m x
+pub look_before : (m : ℕ) (x r : List Entry) → look m r ≡ None → look m (x ++ r) ≡ look m x
 unfolding look
 look_before m [] r h = h
-look_before m (y ∷ x) r h = ap (cond (eqb y.number m) (some y.mark)) (look_before m x r h)
+look_before m (y ∷ x) r h = ap (cond (eqb y.number m) (Some y.mark)) (look_before m x r h)
 
-pub look_kept : (m n : ℕ) (l : List Entry) → look m (from n l) ≡ cond (ltb m n) none (look m l)
+pub look_kept : (m n : ℕ) (l : List Entry) → look m (from n l) ≡ cond (ltb m n) None (look m l)
 look_kept m n l =
     ⊎_elim
     (λ a. rw (lt-ltb m n a) (look_gone m n l a))

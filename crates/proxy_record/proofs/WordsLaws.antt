@@ -1,5 +1,5 @@
 -- Laws of `specs/Words.antt`: columns under each change, and a record that means the state it was made of. Assumes nothing.
-use Prim.Native.Nat.{ℕ, zero, suc, ◌+◌, ◌-◌, ◌<◌, ◌≤◌}
+use Prim.Native.Nat.{ℕ, suc, ◌+◌, ◌-◌, ◌<◌, ◌≤◌}
 use native.Mathlib.Omega.{arith}
 use native.Mathlib.Nat.{add-zero}
 use native.Mathlib.Numerals.{add-one}
@@ -7,24 +7,17 @@ use mathlib.Core.Path.{◌≡◌, refl, sym, ap, ◌∙◌, subst}
 use mathlib.Core.List.{List, [], ◌∷◌, ◌++◌, map, append_assoc, map-append}
 use lib.ListN.{length, take, drop, get_or, set, length-append, length-take, length-drop, length-map, get_or-append, get_or-map}
 use lib.Seq.{set_split, get_or-take, get_or-drop, drop-drop, take_at, drop_at, take-append-le, drop-append-le, set-append_left}
-use Rattle.proxy_record.specs.Entries.{Mark, Entry, NotAvailable, Received}
+use Rattle.std.proofs.lemmas.List.{take-map, drop-map}
+use Rattle.proxy_record.specs.Entries.{Entry}
+use Rattle.proxy_record.specs.declared.Mark.{Mark}
+use Rattle.proxy_record.specs.declared.Mark.TheVariants.{NotAvailable, Received}
 use Rattle.proxy_record.specs.State.{Proxy}
 use Rattle.proxy_record.specs.Rules.{ProxyRules, GoodProxyUpTo}
 use Rattle.proxy_record.specs.Column.{slot_opened, slots_shut}
-use Rattle.proxy_record.specs.Words.{column_size, numbers_at, kinds_at, times_at, kind_of, time_of, mark_of, number_in, kind_in, time_in, column, proxy_layout, proxy_words, entry_at, entries_from, proxy_of, zeros}
+use Rattle.proxy_record.specs.Words.{column_size, numbers_at, kinds_at, times_at, kind_of, time_of, mark_of, number_in, kind_in, time_in, column, proxy_layout, proxy_words, entry_at, entries_from, proxy_of, tracked_in, zeros}
 use Rattle.proxy_record.specs.Rows.{blank_entry, insert_entry, replace_entry}
 use Rattle.proxy_record.proofs.ColumnLaws.{length_zeros, zeros_append, drop_zeros}
 use Rattle.proxy_record.proofs.PartLaws.{Laid, laid_length, numbers_of, kinds_of, times_of, base_at, count_at, last_at, time_at}
-
-map_take : (f : Entry → ℕ) (n : ℕ) (l : List Entry) → take n (map f l) ≡ map f (take n l)
-map_take f zero l = refl
-map_take f (suc n) [] = refl
-map_take f (suc n) (x ∷ l) = ap (λ (m : List ℕ). f x ∷ m) (map_take f n l)
-
-map_drop : (f : Entry → ℕ) (n : ℕ) (l : List Entry) → drop n (map f l) ≡ map f (drop n l)
-map_drop f zero l = refl
-map_drop f (suc n) [] = refl
-map_drop f (suc n) (x ∷ l) = map_drop f n l
 
 pub length_column : (f : Entry → ℕ) (l : List Entry) → length l ≤ column_size → length (column f l) ≡ column_size
 unfolding column
@@ -46,14 +39,14 @@ column_opened f l at e h k =
     let z : drop (suc (length l)) (map f l ++ zeros (column_size - length l)) ≡ zeros (column_size - suc (length l)) =
     let g : column_size - length l - 1 ≡ column_size - suc (length l) = omega arith in
     rw (← add-one, ← drop-drop 1 (length l), drop_at (map f l) (zeros (column_size - length l)) (length l) m, drop_zeros, add-one, g) in
-    rw (z, take-append-le at (map f l) (zeros (column_size - length l)) a, drop-append-le at (map f l) (zeros (column_size - length l)) a, take_at (drop at (map f l)) (zeros (column_size - length l)) (length l - at) d, n, map-append, append_assoc, map_take, map_drop)
+    rw (z, take-append-le at (map f l) (zeros (column_size - length l)) a, drop-append-le at (map f l) (zeros (column_size - length l)) a, take_at (drop at (map f l)) (zeros (column_size - length l)) (length l - at) d, n, map-append, append_assoc, take-map, drop-map)
 
 pub column_set : (f : Entry → ℕ) (l : List Entry) (at : ℕ) (e : Entry) → at < length l → set (column f l) at (f e) ≡ column f (replace_entry at e l)
 unfolding column
 column_set f l at e h =
     let m : at < length (map f l) = rw length-map h in
     let n : length (replace_entry at e l) ≡ length l = simp (length-append, length-take, length-drop) (omega arith) in
-    rw (set-append_left (map f l) (zeros (column_size - length l)) at (f e) m, set_split (map f l) at (f e) m, n, map-append, map_take, map_drop)
+    rw (set-append_left (map f l) (zeros (column_size - length l)) at (f e) m, set_split (map f l) at (f e) m, n, map-append, take-map, drop-map)
 
 pub column_shut : (f : Entry → ℕ) (l : List Entry) (k : ℕ) → k ≤ length l → length l ≤ column_size → slots_shut (length l) k (column f l) ≡ column f (drop k l)
 unfolding slots_shut column
@@ -62,7 +55,7 @@ column_shut f l k h j =
     let a : k ≤ length (map f l) = omega arith in
     let d : length (drop k (map f l)) ≡ length l - k = simp length-drop (omega arith) in
     let n : k + (column_size - length l) ≡ column_size - length (drop k l) = simp length-drop (omega arith) in
-    rw (drop-append-le k (map f l) (zeros (column_size - length l)) a, take_at (drop k (map f l)) (zeros (column_size - length l)) (length l - k) d, drop_at (map f l) (zeros (column_size - length l)) (length l) m, zeros_append, n, map_drop)
+    rw (drop-append-le k (map f l) (zeros (column_size - length l)) a, take_at (drop k (map f l)) (zeros (column_size - length l)) (length l - k) d, drop_at (map f l) (zeros (column_size - length l)) (length l) m, zeros_append, n, drop-map)
 
 -- the record of a state is laid out so, and what is laid out so is its record
 abbrev pub Kept : List ℕ → Proxy → Type 0
@@ -104,6 +97,15 @@ row_of_lem s w i d h k =
     let b : get_or w (kinds_at + i) 0 ≡ kind_of e.mark = at_part w kinds_at i _ (kinds_of d) p ∙ column_get kind_in s.tracked i refl k in
     let c : get_or w (times_at + i) 0 ≡ time_of e.mark = at_part w times_at i _ (times_of d) p ∙ column_get time_in s.tracked i refl k in
     rw (a, b, c) (λ j. record { number = e.number; mark = mark_same e.mark j })
+
+-- an entry, by its three words
+pub row_is : (m i : ℕ) (w : List ℕ) → m ≤ column_size → GoodProxyUpTo m w → i < length (tracked_in w) → entry_at w i ≡ get_or (tracked_in w) i blank_entry
+row_is m i w h g k = row_of_lem (proxy_of w) w i (good_kept m w h g) (omega (arith, g.ok.few)) k
+
+pub number_is : (m i : ℕ) (w : List ℕ) → m ≤ column_size → GoodProxyUpTo m w → i < length (tracked_in w)
+    → get_or w (numbers_at + i) 0 ≡ (get_or (tracked_in w) i blank_entry).number
+unfolding entry_at
+number_is m i w h g k = ap (λ (e : Entry). e.number) (row_is m i w h g k)
 
 rows_of_lem : (w : List ℕ) (i : ℕ) (l : List Entry) → ((j : ℕ) → j < length l → entry_at w (i + j) ≡ get_or l j blank_entry) → entries_from (length l) i w ≡ l
 unfolding entries_from

@@ -1,15 +1,15 @@
 -- Tracked numbers as a list of entries that rises by number: what the proxy's table means. Assumes nothing.
-use Rattle.std.specs.Prelude.{ℕ, suc, ◌<◌, ◌≤◌, ◌≡◌, ◌⊎◌, Bool, true, false, cond, List, [], ◌∷◌, ◌++◌, ltb, leb, eqb}
-use Rattle.std.proofs.Math.Option.{Option, none, some}
+use Rattle.std.specs.Prelude.{ℕ, suc, ◌<◌, ◌≤◌, ◌≡◌, ◌⊎◌, Bool, cond, List, [], ◌∷◌, ◌++◌, ltb, leb, eqb, Option, Some, None, is_some}
+use Rattle.proxy_record.specs.declared.Mark.{Mark}
 
--- "each received at a time or not available"
-pub data Mark : Type 0 where
-  NotAvailable : Mark
-  Received : ℕ → Mark
-
+-- a tracked number: "each received at a time or not available"
 pub record Entry : Type 0 where
   pub number : ℕ
   pub mark : Mark
+
+-- a number with its mark
+abbrev pub marked : ℕ → Mark → Entry
+marked n m = record { number = n; mark = m }
 
 -- the numbers are lo or more, below hi, and strictly rising
 abbrev pub RisingEntries : ℕ → ℕ → List Entry → Type 0
@@ -38,17 +38,12 @@ run_len b (x ∷ l) = cond (eqb x.number b) (suc (run_len (suc b) l)) 0
 
 -- its mark, if it is tracked
 unfoldable pub look : ℕ → List Entry → Option Mark
-look n [] = none
-look n (x ∷ l) = cond (eqb x.number n) (some x.mark) (look n l)
-
--- whether there is a mark
-abbrev pub is_given : Option Mark → Bool
-is_given none = false
-is_given (some m) = true
+look n [] = None
+look n (x ∷ l) = cond (eqb x.number n) (Some x.mark) (look n l)
 
 -- whether a number is tracked
 abbrev pub is_tracked : ℕ → List Entry → Bool
-is_tracked n l = is_given (look n l)
+is_tracked n l = is_some (look n l)
 
 -- an entry of the table has the number
 abbrev pub Tracked : ℕ → List Entry → Type 0

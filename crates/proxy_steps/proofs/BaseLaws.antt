@@ -19,14 +19,15 @@ use Rattle.proxy_record.proofs.RunLaws.{run_within, run_bound, from_run}
 use Rattle.proxy_record.proofs.PartLaws.{last_at, base_laid, last_laid, time_laid}
 use Rattle.proxy_record.proofs.WordsLaws.{kept_of, good_kept, of_laid, state_of, good_is}
 use Rattle.proxy_record.proofs.RulesLaws.{base_word}
-use Rattle.proxy_steps.specs.declared.Report.{Report}
-use Rattle.proxy_steps.specs.declared.Report.TheVariants.{Done, Forced}
+use Rattle.std.specs.Prelude.{Result, Ok, Option, Some, None}
+use Rattle.outcome.specs.declared.Refusal.{Refusal}
+use Rattle.proxy_steps.specs.declared.Forced.{Forced}
 use Rattle.proxy_steps.specs.Steps.{ProxyReply, noted, put, move_on, discard, cut_to, followed, capped, ended_proxy, forced, ProxyAnswers}
 use Rattle.proxy_steps.proofs.StepsLaws.{ok_put, ok_advanced, ok_cut, followed_base, followed_other}
 use Rattle.proxy_steps.proofs.CapLaws.{ended_few, ended_before, lowest_gone_lem}
 
 -- what a call answers and leaves is what a reply says
-pub answered : (r : Report) (o : List ℕ) (x y : ProxyReply) → x ≡ y → ProxyAnswers r o x → ProxyAnswers r o y
+pub answered : (r : Result (Option Forced) Refusal) (o : List ℕ) (x y : ProxyReply) → x ≡ y → ProxyAnswers r o x → ProxyAnswers r o y
 answered r o x y e a = subst (λ (z : ProxyReply). ProxyAnswers r o z) e a
 
 -- `note`
@@ -74,7 +75,7 @@ module _ (w : List ℕ) (g : GoodProxy w) (b k r : ℕ) (j : b ≤ top) (p : k �
 
 -- `enforce_change_map_cap`: x is the lowest number
 module _ (w : List ℕ) (g : GoodProxyUpTo column_size w) where
-  pub cap_none : get_or w 1 0 ≤ cap → ProxyAnswers Done w (ended_proxy (proxy_of w) (proxy_of w))
+  pub cap_none : get_or w 1 0 ≤ cap → ProxyAnswers (Ok None) w (ended_proxy (proxy_of w) (proxy_of w))
   cap_none h =
       let k : length (tracked_in w) ≤ cap = omega (arith, g.count) in
       rw (ended_few (proxy_of w) (proxy_of w) k) (refl, g.made)
@@ -85,7 +86,7 @@ module _ (w : List ℕ) (g : GoodProxyUpTo column_size w) where
       omega (arith, rising_top (proxy_of w).base top 0 (tracked_in w) g.ok.rising k)
 
   pub cap_one : (b x : ℕ) (u : List ℕ) → cap < get_or w 1 0 → x ≡ number_in (get_or (tracked_in w) 0 blank_entry) → b ≡ max (get_or w 0 0) (x + 1)
-      → u ≡ proxy_words (with_tracked (drop 1 (tracked_in w)) (proxy_of w)) → ProxyAnswers (Forced (get_or w 0 0) b) (set u 0 b) (ended_proxy (proxy_of w) (proxy_of w))
+      → u ≡ proxy_words (with_tracked (drop 1 (tracked_in w)) (proxy_of w)) → ProxyAnswers (Ok (Some (record { old = get_or w 0 0; new = b }))) (set u 0 b) (ended_proxy (proxy_of w) (proxy_of w))
   unfolding ended_proxy capped
   cap_one b x u h e f z =
       let s = proxy_of w in
@@ -112,7 +113,7 @@ module _ (w : List ℕ) (g : GoodProxy w) (e : Entry) (h : (proxy_of w).base ≤
     put_state : proxy_of p ≡ put e (proxy_of w)
     put_state = state_of (put e (proxy_of w)) p put_ok.few f
 
-    pub track_above : (r : Report) (o : List ℕ) → (e.number ≡ get_or w 0 0 → ⊥) → ProxyAnswers r o (ended_proxy (proxy_of p) (proxy_of p))
+    pub track_above : (r : Result (Option Forced) Refusal) (o : List ℕ) → (e.number ≡ get_or w 0 0 → ⊥) → ProxyAnswers r o (ended_proxy (proxy_of p) (proxy_of p))
         → ProxyAnswers r o (ended_proxy (proxy_of w) (followed e.number (put e (proxy_of w))))
     track_above r o k a =
         let z : e.number ≡ (proxy_of w).base → ⊥ = λ q. k (q ∙ sym (base_word cap w (omega arith) g)) in
@@ -120,7 +121,7 @@ module _ (w : List ℕ) (g : GoodProxy w) (e : Entry) (h : (proxy_of w).base ≤
         (ended_before (proxy_of p) (proxy_of w) (proxy_of p) ∙ ap (ended_proxy (proxy_of w)) (put_state ∙ sym (followed_other column_size e.number (put e (proxy_of w)) put_ok z))) a
 
   pub track_base : (o : List ℕ) → e.number ≡ get_or w 0 0 → o ≡ proxy_words (discard (move_on (cut_to (e.number + 1) (proxy_of w))))
-      → ProxyAnswers Done o (ended_proxy (proxy_of w) (followed e.number (put e (proxy_of w))))
+      → ProxyAnswers (Ok None) o (ended_proxy (proxy_of w) (followed e.number (put e (proxy_of w))))
   track_base o k z =
       let b : e.number ≡ (proxy_of w).base = k ∙ base_word cap w (omega arith) g in
       let s = discard (move_on (cut_to (suc e.number) (proxy_of w))) in

@@ -5,13 +5,14 @@ use native.Mathlib.Omega.{arith}
 use native.Mathlib.Nat.{add-zero, zero-add, suc-add}
 use mathlib.Core.Logic.{◌⊎◌, inl, inr, ⊎_elim}
 use mathlib.Core.Path.{◌≡◌, refl, ap, ◌∙◌}
-use mathlib.Core.Option.{some}
+use Rattle.std.specs.Prelude.{Some}
 use mathlib.Core.List.{List}
 use lib.ListN.{length}
 use borrow.Author.Tests.{eq-eqb, ne_eqb}
 use Rattle.outcome.proofs.Split.{split_lt}
 use Rattle.sequence_number.specs.Number.{top}
-use Rattle.proxy_record.specs.Entries.{Entry, NotAvailable, RisingEntries, from, put_in, look}
+use Rattle.proxy_record.specs.Entries.{Entry, RisingEntries, from, put_in, look}
+use Rattle.proxy_record.specs.declared.Mark.TheVariants.{NotAvailable}
 use Rattle.proxy_record.specs.State.{Proxy, with_tracked}
 use Rattle.proxy_record.specs.Rules.{ProxyRules}
 use Rattle.proxy_record.specs.Rows.{rank}
@@ -106,7 +107,7 @@ look_each_out (suc k) a m s h =
     look_each_out k (suc a) m (put (unavailable a) s) (⊎_elim (λ p. inl (omega arith)) (λ p. inr (omega arith)) h)
     ∙ look_put m (unavailable a) s.tracked ∙ rw (ne_eqb a m z)
 
-pub look_each_in : (k a m : ℕ) (s : Proxy) → a ≤ m → m < a + k → look m (put_each a k s).tracked ≡ some NotAvailable
+pub look_each_in : (k a m : ℕ) (s : Proxy) → a ≤ m → m < a + k → look m (put_each a k s).tracked ≡ Some NotAvailable
 unfolding put_each
 look_each_in zero a m s h j = absurd (omega arith)
 look_each_in (suc k) a m s h j =

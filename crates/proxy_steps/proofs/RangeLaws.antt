@@ -1,7 +1,6 @@
 -- The functions of `range` on lent words: what the record is after each, in the words of the code. Assumes nothing.
 use Prim.Native.Nat.{ℕ, suc, ◌+◌, ◌-◌, ◌<◌, ◌≤◌}
 use native.Mathlib.Omega.{arith}
-use native.Mathlib.Nat.{add-zero, sub-zero, sub_self}
 use mathlib.Core.Path.{◌≡◌, refl, sym, ap, ◌∙◌}
 use mathlib.Core.List.{List}
 use lib.ListN.{length, drop, get_or, set, length-drop}
@@ -17,7 +16,7 @@ use Rattle.proxy_record.proofs.BelowFromLaws.{length_split}
 use Rattle.proxy_record.proofs.PartLaws.{base_laid}
 use Rattle.proxy_record.proofs.WordsLaws.{kept_of, of_laid, state_of}
 use Rattle.proxy_record.proofs.RulesLaws.{good_of, good_rising, base_word}
-use Rattle.proxy_steps.specs.declared.Report.TheVariants.{Done, Forced}
+use Rattle.std.specs.Prelude.{Ok, Some, None}
 use Rattle.proxy_steps.specs.Steps.{put, rebased, move_on, discard, cut_to, ended_proxy, forced, unavailable, skipped, put_each, ProxyAnswers}
 use Rattle.proxy_steps.proofs.StepsLaws.{ok_put, ok_cut, skipped_none, skipped_some}
 use Rattle.proxy_steps.proofs.CapLaws.{ended_few, ended_cut}
@@ -38,42 +37,41 @@ module _ (w : List ℕ) (g : GoodProxy w) (b : ℕ) (j : b ≤ top) where
       let k : (proxy_of w).base < b = omega (arith, base_word cap w (omega arith) g) in
       q ∙ ap proxy_words (sym (skipped_some 0 b (proxy_of w) g.ok (omega arith) k))
 
--- where the loop of `fill` stands: the rest of the numbers leads to the same
-pub record Filling (w₀ w : List ℕ) (a m i : ℕ) : Type 0 where
+-- where the loop of `fill` stands: the numbers from n on lead to the same
+pub record Filling (w₀ w : List ℕ) (a b n : ℕ) : Type 0 where
   pub good : GoodProxy w
   pub same : (proxy_of w).base ≡ (proxy_of w₀).base
-  pub rest : put_each (a + i) (m - i) (proxy_of w) ≡ put_each a m (proxy_of w₀)
+  pub rest : put_each n (b - n) (proxy_of w) ≡ put_each a (b - a) (proxy_of w₀)
 
-pub fill_none : (w : List ℕ) (a m : ℕ) → GoodProxy w → Filling w w a m 0
-fill_none w a m g = record { good = g; same = refl; rest = rw (add-zero, sub-zero) refl }
-
-pub fill_more : (w₀ w o : List ℕ) (a m i : ℕ) → Filling w₀ w a m i → i < m → (proxy_of w₀).base ≤ a → a + m ≤ top → length (put_each a m (proxy_of w₀)).tracked ≤ cap
-    → o ≡ proxy_words (put (unavailable (a + i)) (proxy_of w)) → Filling w₀ o a m (i + 1)
+pub fill_more : (w₀ w o : List ℕ) (a b n : ℕ) → Filling w₀ w a b n → a ≤ n → n < b → (proxy_of w₀).base ≤ a → b ≤ top → length (put_each a (b - a) (proxy_of w₀)).tracked ≤ cap
+    → o ≡ proxy_words (put (unavailable n) (proxy_of w)) → Filling w₀ o a b (n + 1)
 unfolding put_each
-fill_more w₀ w o a m i f h j k q e =
-    let s = put (unavailable (a + i)) (proxy_of w) in
-    let p : ProxyRules column_size s = ok_put cap (unavailable (a + i)) (proxy_of w) f.good.ok (omega (arith, f.same)) (omega arith) in
+fill_more w₀ w o a b n f h i j k q e =
+    let s = put (unavailable n) (proxy_of w) in
+    let p : ProxyRules column_size s = ok_put cap (unavailable n) (proxy_of w) f.good.ok (omega (arith, f.same)) (omega arith) in
     let t : proxy_of o ≡ s = state_of s o p.few e in
-    let n : suc (a + i) ≡ a + (i + 1) = omega arith in
-    let d : m - i ≡ suc (m - (i + 1)) = omega arith in
-    let c : put_each (a + (i + 1)) (m - (i + 1)) s ≡ put_each a m (proxy_of w₀) = rw (← n) (rw d at f.rest) in
+    let m : suc n ≡ n + 1 = omega arith in
+    let d : b - n ≡ suc (b - suc n) = omega arith in
+    let c : put_each (n + 1) (b - (n + 1)) s ≡ put_each a (b - a) (proxy_of w₀) = rw (← m) (rw d at f.rest) in
     let y : RisingEntries 0 top s.tracked = rising_any s.base top s.tracked p.rising in
-    let z : length s.tracked ≤ cap = omega (arith, each_more (m - (i + 1)) (a + (i + 1)) s y (omega arith), ap (λ (x : Proxy). length x.tracked) c) in
+    let z : length s.tracked ≤ cap = omega (arith, each_more (b - (n + 1)) (n + 1) s y (omega arith), ap (λ (x : Proxy). length x.tracked) c) in
     record {
       good = good_of o s (record { few = z; rising = p.rising; low = p.low; high = p.high; last_below = p.last_below }) e;
       same = ap (λ (x : Proxy). x.base) t ∙ f.same;
       rest = rw t c;
     }
 
-pub fill_end : (w₀ w : List ℕ) (a m : ℕ) → Filling w₀ w a m m → w ≡ proxy_words (put_each a m (proxy_of w₀))
+pub fill_end : (w₀ w : List ℕ) (a b n : ℕ) → Filling w₀ w a b n → b ≤ n → w ≡ proxy_words (put_each a (b - a) (proxy_of w₀))
 unfolding put_each
-fill_end w₀ w a m f = f.good.made ∙ ap proxy_words (rw sub_self at f.rest)
+fill_end w₀ w a b n f h =
+    let z : b - n ≡ 0 = omega arith in
+    f.good.made ∙ ap proxy_words (rw z at f.rest)
 
 -- `range_above`: x and y are the places of the range's ends, and T is how many would be tracked
 
 -- what `fill` asks
 abbrev pub Room : List ℕ → ℕ → ℕ → Type 0
-Room w a m = GoodProxy w × ((proxy_of w).base ≤ a) × (a + m ≤ top) × (length (put_each a m (proxy_of w)).tracked ≤ cap)
+Room w a b = GoodProxy w × ((proxy_of w).base ≤ a) × (a ≤ b) × (b ≤ top) × (length (put_each a (b - a) (proxy_of w)).tracked ≤ cap)
 
 module _ (w : List ℕ) (g : GoodProxy w) (a b x y T : ℕ) (h : (proxy_of w).base < a) (j : a ≤ b) (k : b ≤ top)
     (at_a : x ≡ rank a (tracked_in w)) (at_b : y ≡ rank b (tracked_in w)) (t : T ≡ x + (b - a) + (get_or w 1 0 - y)) where
@@ -86,10 +84,10 @@ module _ (w : List ℕ) (g : GoodProxy w) (a b x y T : ℕ) (h : (proxy_of w).ba
       let u : a + (b - a) ≡ b = omega arith in
       rw (t, at_a, at_b, g.count) (rw u at (length_each (b - a) a (proxy_of w) (good_rising w g) (omega arith)))
 
-  pub room_few : T ≤ cap → Room w a (b - a)
-  room_few q = (g, omega arith, omega arith, rw all q)
+  pub room_few : T ≤ cap → Room w a b
+  room_few q = (g, omega arith, j, k, rw all q)
 
-  pub range_few : (o : List ℕ) → T ≤ cap → o ≡ proxy_words whole → ProxyAnswers Done o (ended_proxy (proxy_of w) whole)
+  pub range_few : (o : List ℕ) → T ≤ cap → o ≡ proxy_words whole → ProxyAnswers (Ok None) o (ended_proxy (proxy_of w) whole)
   range_few o q e =
       let z : length whole.tracked ≤ cap = rw all q in
       rw (ended_few (proxy_of w) whole z) (refl, e)
@@ -112,15 +110,16 @@ module _ (w : List ℕ) (g : GoodProxy w) (a b x y T : ℕ) (h : (proxy_of w).ba
     cut_state : proxy_of (set u 0 v) ≡ cut_to v (proxy_of w)
     cut_state = state_of (cut_to v (proxy_of w)) (set u 0 v) (omega (arith, cut_ok.few)) cut_made
 
-    pub room_forced : Room (set u 0 v) d (b - d)
+    pub room_forced : Room (set u 0 v) d b
     room_forced = (
       good_of (set u 0 v) (cut_to v (proxy_of w)) cut_ok cut_made,
       rw cut_state hi,
-      omega arith,
+      m,
+      k,
       rw (cut_state, ← z) (omega (arith, all, length_split v whole.tracked)),
     )
 
-    pub range_forced : (o : List ℕ) → o ≡ proxy_words (put_each d (b - d) (proxy_of (set u 0 v))) → ProxyAnswers (Forced (get_or w 0 0) v) o (ended_proxy (proxy_of w) whole)
+    pub range_forced : (o : List ℕ) → o ≡ proxy_words (put_each d (b - d) (proxy_of (set u 0 v))) → ProxyAnswers (Ok (Some (record { old = get_or w 0 0; new = v }))) o (ended_proxy (proxy_of w) whole)
     range_forced o i =
         let l : RisingEntries whole.base top whole.tracked =
         rw (base_each (b - a) a (proxy_of w)) (rising_each (b - a) a (proxy_of w).base (proxy_of w) g.ok.rising (omega arith) (omega arith)) in
@@ -128,8 +127,7 @@ module _ (w : List ℕ) (g : GoodProxy w) (a b x y T : ℕ) (h : (proxy_of w).ba
         (ap (λ (y : ℕ). done (forced y v)) (base_word cap w (omega arith) g ∙ sym (base_each (b - a) a (proxy_of w))), i ∙ ap proxy_words (ap (put_each d (b - d)) cut_state ∙ sym z))
 
   -- the range stays whole: the base is after the last entry that goes
-  module _ (q : cap < T) (v : T - cap ≤ x) (e : ℕ) (c : e ≡ number_in (get_or (tracked_in w) (T - cap - 1) blank_entry)) (u : List ℕ)
-      (z : u ≡ proxy_words (with_tracked (drop (T - cap) (tracked_in w)) (proxy_of w))) where
+  module _ (q : cap < T) (v : T - cap ≤ x) (e : ℕ) (c : e ≡ number_in (get_or (tracked_in w) (T - cap - 1) blank_entry)) where
     inside : T - cap - 1 < rank a (tracked_in w)
     inside = omega (arith, at_a)
 
@@ -156,15 +154,16 @@ module _ (w : List ℕ) (g : GoodProxy w) (a b x y T : ℕ) (h : (proxy_of w).ba
     low_rank : rank (e + 1) whole.tracked ≡ T - cap
     low_rank = rank_each_low (b - a) a (e + 1) (proxy_of w) low_below ∙ sym low_count
 
-    pub room_low : Room (set u 0 (e + 1)) a (b - a)
-    room_low =
-        room_forced q (T - cap) e (e + 1) a u z (omega arith) low_count (omega (arith, low_above)) low_below j low_last low_rank
-        (each_cut_low (b - a) a (e + 1) (proxy_of w) low_below)
+    module _ (u : List ℕ) (z : u ≡ proxy_words (with_tracked (drop (T - cap) (tracked_in w)) (proxy_of w))) where
+      pub room_low : Room (set u 0 (e + 1)) a b
+      room_low =
+          room_forced q (T - cap) e (e + 1) a u z (omega arith) low_count (omega (arith, low_above)) low_below j low_last low_rank
+          (each_cut_low (b - a) a (e + 1) (proxy_of w) low_below)
 
-    pub range_low : (o : List ℕ) → o ≡ proxy_words (put_each a (b - a) (proxy_of (set u 0 (e + 1)))) → ProxyAnswers (Forced (get_or w 0 0) (e + 1)) o (ended_proxy (proxy_of w) whole)
-    range_low =
-        range_forced q (T - cap) e (e + 1) a u z (omega arith) low_count (omega (arith, low_above)) low_below j low_last low_rank
-        (each_cut_low (b - a) a (e + 1) (proxy_of w) low_below)
+      pub range_low : (o : List ℕ) → o ≡ proxy_words (put_each a (b - a) (proxy_of (set u 0 (e + 1)))) → ProxyAnswers (Ok (Some (record { old = get_or w 0 0; new = e + 1 }))) o (ended_proxy (proxy_of w) whole)
+      range_low =
+          range_forced q (T - cap) e (e + 1) a u z (omega arith) low_count (omega (arith, low_above)) low_below j low_last low_rank
+          (each_cut_low (b - a) a (e + 1) (proxy_of w) low_below)
 
   -- of the range only the end stays, from v on
   module _ (i : x < T - cap) (v : ℕ) (c : v ≡ a + (T - cap - x)) (n : ℕ) (p : n ≡ rank v (tracked_in w)) (u : List ℕ)
@@ -189,8 +188,8 @@ module _ (w : List ℕ) (g : GoodProxy w) (a b x y T : ℕ) (h : (proxy_of w).ba
         let l : b - a ≡ (T - cap - x) + (b - v) = omega (arith, high_within) in
         rw (l, c) (rw c at (each_cut_in (T - cap - x) (b - v) a (proxy_of w)))
 
-    pub room_high : Room (set u 0 v) v (b - v)
+    pub room_high : Room (set u 0 v) v b
     room_high = room_forced (omega arith) n (v - 1) v v u z (omega arith) p (omega arith) (omega arith) high_within high_last high_rank high_rest
 
-    pub range_high : (o : List ℕ) → o ≡ proxy_words (put_each v (b - v) (proxy_of (set u 0 v))) → ProxyAnswers (Forced (get_or w 0 0) v) o (ended_proxy (proxy_of w) whole)
+    pub range_high : (o : List ℕ) → o ≡ proxy_words (put_each v (b - v) (proxy_of (set u 0 v))) → ProxyAnswers (Ok (Some (record { old = get_or w 0 0; new = v }))) o (ended_proxy (proxy_of w) whole)
     range_high = range_forced (omega arith) n (v - 1) v v u z (omega arith) p (omega arith) (omega arith) high_within high_last high_rank high_rest

@@ -1,11 +1,13 @@
 -- The steps that the calls on a proxy are made of, in document 01's words, and how a call ends. Assumes nothing.
-use Rattle.std.specs.Prelude.{ℕ, zero, suc, ◌+◌, ◌-◌, max, ◌≡◌, cond, List, [], ◌∷◌, ◌++◌, length, ltb, eqb}
-use Rattle.outcome.specs.Outcome.{Outcome, refused, done}
-use Rattle.proxy_record.specs.Entries.{Entry, NotAvailable, below, from, put_in, run_len}
+use Rattle.std.specs.Prelude.{ℕ, zero, suc, ◌+◌, ◌-◌, max, ◌≡◌, cond, List, [], ◌∷◌, ◌++◌, length, ltb, eqb, Option, Some, None, Result}
+use Rattle.outcome.specs.Outcome.{Outcome, refused, done, found}
+use Rattle.outcome.specs.Refusal.{said}
+use Rattle.outcome.specs.declared.Refusal.{Refusal}
+use Rattle.proxy_record.specs.Entries.{Entry, below, from, put_in, run_len}
+use Rattle.proxy_record.specs.declared.Mark.TheVariants.{NotAvailable}
 use Rattle.proxy_record.specs.State.{Proxy, with_tracked, cap}
 use Rattle.proxy_record.specs.Words.{proxy_words}
-use Rattle.proxy_steps.specs.declared.Report.{Report}
-use Rattle.proxy_steps.specs.declared.Report.TheVariants.{Done, Forced, Refused}
+use Rattle.proxy_steps.specs.declared.Forced.{Forced}
 
 -- The steps
 
@@ -59,10 +61,12 @@ pub data Forcing : Type 0 where
   forced : ℕ → ℕ → Forcing
 
 -- the paper's number and values for each answer
-abbrev pub report_said : Report → Outcome Forcing
-report_said Done = done unforced
-report_said (Forced old new) = done (forced old new)
-report_said (Refused k) = refused k
+abbrev pub forcing : Option Forced → Forcing
+forcing None = unforced
+forcing (Some f) = forced f.old f.new
+
+abbrev pub report_said : Result (Option Forced) Refusal → Outcome Forcing
+report_said r = found forcing (said r)
 
 -- what a call says and leaves: the answer and the state
 pub record ProxyReply : Type 0 where
@@ -97,5 +101,5 @@ put_each a zero s = s
 put_each a (suc k) s = put_each (suc a) k (put (unavailable a) s)
 
 -- What is promised of a call: its answer, and the lent words after it
-abbrev pub ProxyAnswers : Report → List ℕ → ProxyReply → Type 0
+abbrev pub ProxyAnswers : Result (Option Forced) Refusal → List ℕ → ProxyReply → Type 0
 ProxyAnswers r w x = (report_said r ≡ x.answer) × (w ≡ proxy_words x.state)

@@ -1,14 +1,14 @@
 // The steps that calls share: the last received number, the base moved on, the cap, a number tracked.
-ghost use Rattle.std.specs.Prelude.{◌≡◌, ◌<◌, ◌≤◌};
+ghost use Rattle.std.specs.Prelude.{◌≡◌, ◌<◌, ◌≤◌, Ok};
 ghost use Rattle.sequence_number.specs.Number.{top};
 ghost use Rattle.proxy_record.specs.Rules.{GoodProxyUpTo, GoodProxy};
-ghost use Rattle.proxy_record.specs.Words.{column_size, entry_of, proxy_words, proxy_of};
-ghost use Rattle.proxy_record.specs.Rows.{WordsOfMark};
+ghost use Rattle.proxy_record.specs.Entries.{marked};
+ghost use Rattle.proxy_record.specs.Words.{column_size, proxy_words, proxy_of};
 ghost use Rattle.proxy_steps.specs.Steps.{noted, put, move_on, discard, cut_to, followed, ended_proxy, ProxyAnswers};
 
-use crate::Report;
+use crate::Forced;
 use proxy_record::layout::{BASE, CAP, COUNT, LAST, TIME};
-use proxy_record::rows;
+use proxy_record::{Mark, rows};
 
 // The last received number follows a greater one.
 pub fn note(t: &mut [u64], n: u64, time: u64)
@@ -34,36 +34,30 @@ pub(crate) fn advance_ack_base(t: &mut [u64], b: u64)
 }
 
 // Above 256 tracked, the lowest goes and the base becomes at least one more.
-pub(crate) fn enforce_change_map_cap(t: &mut [u64]) -> Report
+pub(crate) fn enforce_change_map_cap(t: &mut [u64]) -> Option<Forced>
     requires { GoodProxyUpTo column_size t.old }
-    ensures { ProxyAnswers result t.new (ended_proxy (proxy_of t.old) (proxy_of t.old)) }
+    ensures { ProxyAnswers (Ok result) t.new (ended_proxy (proxy_of t.old) (proxy_of t.old)) }
 {
     let len = t[COUNT] as usize;
     if len <= CAP {
-        return Report::Done;
+        return None;
     }
     let old = t[BASE];
-    let x = rows::number_at(t, 0);
-    let next = x + 1;
-    let mut new = old;
-    if new < next {
-        new = next;
-    }
+    let new = old.max(rows::number_at(t, 0) + 1);
     rows::shut_rows(t, len, 1);
     t[BASE] = new;
-    Report::Forced(old, new)
+    Some(Forced { old, new })
 }
 
 // A number at the base or above it is put, and the cap is last. The base's own number is not put: the base steps over it.
-pub fn track(t: &mut [u64], n: u64, kind: u64, time: u64) -> Report
-    requires { GoodProxy t.old × WordsOfMark kind time × ((proxy_of t.old).base ≤ n) × (n < top) }
-    ensures { ProxyAnswers result t.new (ended_proxy (proxy_of t.old) (followed n (put (entry_of n kind time) (proxy_of t.old)))) }
+pub fn track(t: &mut [u64], n: u64, mark: Mark) -> Option<Forced>
+    requires { GoodProxy t.old × ((proxy_of t.old).base ≤ n) × (n < top) }
+    ensures { ProxyAnswers (Ok result) t.new (ended_proxy (proxy_of t.old) (followed n (put (marked n mark) (proxy_of t.old)))) }
 {
-    let base = t[BASE];
-    if n != base {
-        rows::put(t, n, kind, time);
-        return enforce_change_map_cap(t);
+    if n == t[BASE] {
+        advance_ack_base(t, n + 1);
+        return None;
     }
-    advance_ack_base(t, n + 1);
-    Report::Done
+    rows::put(t, n, mark);
+    enforce_change_map_cap(t)
 }

@@ -5,10 +5,9 @@
 pub mod base;
 pub mod range;
 
-// What became of a call: done, done with the base forced from one number to another, or refused with document 01's number.
-#[derive(Drop)]
-pub enum Report {
-    Done,
-    Forced(u64, u64),
-    Refused(u8),
+// A forced step: the base that was, and the one after it.
+#[derive(Clone, Copy, Debug, PartialEq, Eq, Hash)]
+pub struct Forced {
+    pub old: u64,
+    pub new: u64,
 }

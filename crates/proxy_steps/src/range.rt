@@ -1,14 +1,14 @@
 // A range that is not available.
-ghost use Rattle.std.specs.Prelude.{◌≡◌, ◌+◌, ◌<◌, ◌≤◌, ◌-◌, length};
+ghost use Rattle.std.specs.Prelude.{◌≡◌, ◌<◌, ◌≤◌, ◌-◌, length, Ok};
 ghost use Rattle.sequence_number.specs.Number.{top};
 ghost use Rattle.proxy_record.specs.State.{cap};
 ghost use Rattle.proxy_record.specs.Rules.{GoodProxy};
 ghost use Rattle.proxy_record.specs.Words.{proxy_words, proxy_of};
 ghost use Rattle.proxy_steps.specs.Steps.{ended_proxy, skipped, put_each, ProxyAnswers};
 
-use crate::{Report, base};
-use proxy_record::layout::{BASE, CAP, COUNT, NOT_AVAILABLE};
-use proxy_record::rows;
+use crate::{Forced, base};
+use proxy_record::layout::{BASE, CAP, COUNT};
+use proxy_record::{Mark, rows};
 
 // A range that starts at the base or below it, until before b.
 pub fn skip_to(t: &mut [u64], b: u64)
@@ -21,22 +21,20 @@ pub fn skip_to(t: &mut [u64], b: u64)
     base::advance_ack_base(t, b);
 }
 
-// The m numbers from a on are put, one by one.
-fn fill(t: &mut [u64], a: u64, m: u64)
-    requires { GoodProxy t.old × ((proxy_of t.old).base ≤ a) × (a + m ≤ top) × (length (put_each a m (proxy_of t.old)).tracked ≤ cap) }
-    ensures { t.new ≡ proxy_words (put_each a m (proxy_of t.old)) }
+// The numbers from a until before b are put, one by one.
+fn fill(t: &mut [u64], a: u64, b: u64)
+    requires { GoodProxy t.old × ((proxy_of t.old).base ≤ a) × (a ≤ b) × (b ≤ top) × (length (put_each a (b - a) (proxy_of t.old)).tracked ≤ cap) }
+    ensures { t.new ≡ proxy_words (put_each a (b - a) (proxy_of t.old)) }
 {
-    let mut i: u64 = 0;
-    while i < m {
-        rows::put(t, a + i, NOT_AVAILABLE, 0);
-        i += 1;
+    for n in a..b {
+        rows::put(t, n, Mark::NotAvailable);
     }
 }
 
 // A range above the base. However long it is, at most 256 of its numbers are put: what the cap would drop goes first.
-pub fn range_above(t: &mut [u64], a: u64, b: u64) -> Report
+pub fn range_above(t: &mut [u64], a: u64, b: u64) -> Option<Forced>
     requires { GoodProxy t.old × ((proxy_of t.old).base < a) × (a ≤ b) × (b ≤ top) }
-    ensures { ProxyAnswers result t.new (ended_proxy (proxy_of t.old) (put_each a (b - a) (proxy_of t.old))) }
+    ensures { ProxyAnswers (Ok result) t.new (ended_proxy (proxy_of t.old) (put_each a (b - a) (proxy_of t.old))) }
 {
     let old = t[BASE];
     let len = t[COUNT] as usize;
@@ -44,22 +42,22 @@ pub fn range_above(t: &mut [u64], a: u64, b: u64) -> Report
     let y = rows::place(t, b);
     let total = x as u64 + (b - a) + (len - y) as u64;
     if total <= CAP as u64 {
-        fill(t, a, b - a);
-        return Report::Done;
+        fill(t, a, b);
+        return None;
     }
     let k = total - CAP as u64;
     if k <= x as u64 {
         let i = k as usize;
-        let e = rows::number_at(t, i - 1);
+        let new = rows::number_at(t, i - 1) + 1;
         rows::shut_rows(t, len, i);
-        t[BASE] = e + 1;
-        fill(t, a, b - a);
-        return Report::Forced(old, e + 1);
+        t[BASE] = new;
+        fill(t, a, b);
+        return Some(Forced { old, new });
     }
-    let c = a + (k - x as u64);
-    let z = rows::place(t, c);
+    let new = a + (k - x as u64);
+    let z = rows::place(t, new);
     rows::shut_rows(t, len, z);
-    t[BASE] = c;
-    fill(t, c, b - c);
-    Report::Forced(old, c)
+    t[BASE] = new;
+    fill(t, new, b);
+    Some(Forced { old, new })
 }

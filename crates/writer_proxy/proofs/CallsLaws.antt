@@ -14,7 +14,7 @@ use Rattle.outcome.specs.Outcome.{done, refused, refusal, is_refused}
 use Rattle.outcome.proofs.Split.{split, split_lt, split_eq}
 use Rattle.sequence_number.specs.Number.{top, is_number, nat_of, number_of}
 use Rattle.sequence_number.proofs.NumberLaws.{number_is, nat_top}
-use Rattle.sequence_number.proofs.KindLaws.{rank_above}
+use Rattle.sequence_number.specs.Keeps.{rank_above}
 use Rattle.proxy_record.specs.Entries.{Tracked}
 use Rattle.proxy_record.specs.State.{Proxy, cap}
 use Rattle.proxy_record.specs.Rules.{ProxyRules}

@@ -7,7 +7,7 @@ use mathlib.Core.Path.{◌≡◌, sym, ◌∙◌}
 use mathlib.Core.List.{List, [], ◌∷◌, ◌++◌, map, append-nil, map-append}
 use lib.ListN.{length, take, get_or, set, length-append, length-drop, length-map}
 use lib.Seq.{take_all, take_at}
-use lib.IntN.{ℤ, pos}
+use lib.IntN.{ℤ, pos, negsuc}
 use mir.Syntax.{w64}
 use mir.Val.{SFits, of_z, to_z}
 use mir.Facts.{to_z_pos}
@@ -110,19 +110,29 @@ module _ (w : List ℕ) (g : GoodProxy w) (lo hi : ℕ) (out₀ : List ℤ) wher
         })
         (one_missing 0 top n (tracked_in w) (good_rising w g))
 
+-- the last number of all, in the words of the code
+pub last_is : (n : ℤ) → SFits w64 n → of_z w64 n ≡ top → nat_of n ≡ top
+last_is (pos n) f e = e
+last_is (negsuc n) f e = absurd (omega (arith, f.sfits))
+
+is_last : (n : ℤ) → nat_of n ≡ top → of_z w64 n ≡ top
+is_last (pos n) e = e
+is_last (negsuc n) e = absurd (omega arith)
+
 -- the two ends, in the words of the code
 module _ (start end : ℤ) (fs : SFits w64 start) (fe : SFits w64 end) (w : List ℕ) (g : GoodProxy w) (last first lo hi : ℕ)
-    (pe : last ≡ nat_of (to_z w64 (of_z w64 end))) (ps : first ≡ nat_of (to_z w64 (of_z w64 start))) (n : last ≡ top → ⊥)
+    (pe : last ≡ nat_of (to_z w64 (of_z w64 end))) (ps : first ≡ nat_of (to_z w64 (of_z w64 start))) (n : of_z w64 end ≡ top → ⊥)
     (l : lo ≡ max (get_or w 0 0) first) (h : hi ≡ max lo (last + 1)) where
   pub end_open : nat_of end ≡ top → ⊥
-  end_open z = n (nat_passed end last fe pe ∙ z)
+  end_open z = n (is_last end z)
 
   pub ends_order : (lo ≤ hi) × (hi ≤ top)
   ends_order =
       let a = nat_passed end last fe pe in
       let b = nat_passed start first fs ps in
       let c = base_word cap w (omega arith) g in
-      (omega arith, omega (arith, nat_top end fe, nat_top start fs, g.ok.high))
+      let o : nat_of end < top = omega (arith, nat_top end fe, end_open) in
+      (omega arith, omega (arith, nat_top start fs, g.ok.high))
 
   pub ends_list : untracked_from lo (hi - lo) (tracked_in w) ≡ missing_numbers start end (proxy_of w)
   ends_list =

@@ -4,7 +4,7 @@ use native.Mathlib.Omega.{arith}
 use mathlib.Core.Logic.{◌⊎◌, inl, inr, ⊎_elim}
 use mathlib.Core.Path.{◌≡◌, refl, ap, ◌∙◌}
 use mathlib.Core.Bool.{true, cond}
-use mathlib.Core.Option.{some}
+use Rattle.std.specs.Prelude.{Some, is_some}
 use mathlib.Core.List.{List}
 use lib.Dec.{ltb, eqb}
 use lib.IntN.{ℤ, pos, negsuc}
@@ -12,7 +12,7 @@ use lib.Signed.{lt_z}
 use borrow.Author.Tests.{ltb-true, le-leb, lt-leb}
 use Rattle.outcome.proofs.Split.{split, split_lt}
 use Rattle.sequence_number.specs.Number.{is_number, nat_of}
-use Rattle.proxy_record.specs.Entries.{Entry, from, put_in, look, is_given, Tracked}
+use Rattle.proxy_record.specs.Entries.{Entry, from, put_in, look, Tracked}
 use Rattle.proxy_record.specs.State.{Proxy, cap}
 use Rattle.proxy_record.specs.Rules.{ProxyRules}
 use Rattle.proxy_record.proofs.LookLaws.{is_tracked_lem, look_from}
@@ -29,14 +29,14 @@ Passed n s = (n < s.base) ⊎ Tracked n s.tracked
 
 tracked_stays : (n : ℕ) (e : Entry) (l : List Entry) → Tracked n l → Tracked n (put_in e l)
 tracked_stays n e l t =
-    let h : is_given (cond (eqb e.number n) (some e.mark) (look n l)) ≡ true = split (eqb e.number n) (λ q. rw q) (λ q. rw q ((is_tracked_lem n l).1 t)) in
-    (is_tracked_lem n (put_in e l)).0 (ap is_given (look_put n e l) ∙ h)
+    let h : is_some (cond (eqb e.number n) (Some e.mark) (look n l)) ≡ true = split (eqb e.number n) (λ q. rw q) (λ q. rw q ((is_tracked_lem n l).1 t)) in
+    (is_tracked_lem n (put_in e l)).0 (ap is_some (look_put n e l) ∙ h)
 
 tracked_above : (n b : ℕ) (l : List Entry) → Tracked n l → (n < b) ⊎ Tracked n (from b l)
 tracked_above n b l t =
     ⊎_elim
     (λ h. inl h)
-    (λ h. inr ((is_tracked_lem n (from b l)).0 (ap is_given (look_from n b l h) ∙ (is_tracked_lem n l).1 t)))
+    (λ h. inr ((is_tracked_lem n (from b l)).0 (ap is_some (look_from n b l h) ∙ (is_tracked_lem n l).1 t)))
     (split_lt n b)
 
 -- The steps

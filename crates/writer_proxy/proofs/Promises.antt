@@ -5,7 +5,7 @@ use native.Mathlib.Omega.{arith}
 use mathlib.Core.Logic.{◌⊎◌, inl, inr, ⊎_elim, ◌↔◌}
 use mathlib.Core.Path.{◌≡◌, refl, sym, ap}
 use mathlib.Core.Bool.{true, false, cond}
-use mathlib.Core.Option.{Option, none, some}
+use Rattle.std.specs.Prelude.{Option, None, Some, is_some}
 use mathlib.Core.List.{List, [], map, Memᴰ}
 use lib.ListN.{length}
 use lib.Dec.{ltb, eqb}
@@ -18,7 +18,9 @@ use Rattle.sequence_number.specs.Number.{top, is_number, nat_of, number_of}
 use Rattle.outcome.specs.Lent.{over}
 use Rattle.outcome.specs.Outcome.{done, is_refused}
 use Rattle.outcome.proofs.Split.{split, clash}
-use Rattle.proxy_record.specs.Entries.{Entry, Mark, NotAvailable, look, is_given, Tracked}
+use Rattle.proxy_record.specs.Entries.{Entry, look, Tracked}
+use Rattle.proxy_record.specs.declared.Mark.{Mark}
+use Rattle.proxy_record.specs.declared.Mark.TheVariants.{NotAvailable}
 use Rattle.proxy_record.specs.State.{Proxy, fresh_proxy, cap}
 use Rattle.proxy_record.specs.Rules.{ProxyRules}
 use Rattle.proxy_record.specs.Words.{proxy_words, proxy_of}
@@ -79,16 +81,16 @@ first_untracked m s o = (λ n. moved_past n s, moved_stops m s o)
 -- What the table says of each number m after a step
 
 -- "put .. over what was there"
-pub put_shows : (m : ℕ) (e : Entry) (s : Proxy) → look m (put e s).tracked ≡ cond (eqb e.number m) (some e.mark) (look m s.tracked)
+pub put_shows : (m : ℕ) (e : Entry) (s : Proxy) → look m (put e s).tracked ≡ cond (eqb e.number m) (Some e.mark) (look m s.tracked)
 put_shows m e s = look_put m e s.tracked
 
 -- "tracked numbers below the base go"
-pub discard_shows : (m : ℕ) (s : Proxy) → look m (discard s).tracked ≡ cond (ltb m s.base) none (look m s.tracked)
+pub discard_shows : (m : ℕ) (s : Proxy) → look m (discard s).tracked ≡ cond (ltb m s.base) None (look m s.tracked)
 unfolding discard
 discard_shows m s = look_kept m s.base s.tracked
 
 -- "each is put not available": the k numbers from a on, and no other
-pub puts_show : (k a m : ℕ) (s : Proxy) → a ≤ m → m < a + k → look m (put_each a k s).tracked ≡ some NotAvailable
+pub puts_show : (k a m : ℕ) (s : Proxy) → a ≤ m → m < a + k → look m (put_each a k s).tracked ≡ Some NotAvailable
 puts_show = look_each_in
 
 pub puts_keep : (k a m : ℕ) (s : Proxy) → (m < a) ⊎ (a + k ≤ m) → look m (put_each a k s).tracked ≡ look m s.tracked
@@ -214,16 +216,16 @@ pub up_to_keeps_ignored : (m n : ℤ) (s : Proxy) → ProxyRules cap s → ignor
 up_to_keeps_ignored m = range_keeps_ignored m (pos 0)
 
 -- "The last time is absent while the last number is 0"
-pub last_said : (s : Proxy) → (s.last ≡ 0 → last_received s ≡ none) × ((s.last ≡ 0 → ⊥) → last_received s ≡ some (s.last, s.time))
+pub last_said : (s : Proxy) → (s.last ≡ 0 → last_received s ≡ None) × ((s.last ≡ 0 → ⊥) → last_received s ≡ Some (s.last, s.time))
 unfolding last_received
 last_said s = (λ e. rw (eq-eqb s.last 0 e), λ e. rw (ne_eqb s.last 0 e))
 
 -- there is no status exactly of a number that is not tracked
-not_given : (o : Option Mark) → (o ≡ none) ↔ (is_given o ≡ false)
-not_given none = (λ h. refl, λ h. refl)
-not_given (some m) = (λ h. ap is_given h, λ h. let z : ◌≡◌ {A = ℕ} 0 1 = cc in absurd (omega arith))
+not_given : (o : Option Mark) → (o ≡ None) ↔ (is_some o ≡ false)
+not_given None = (λ h. refl, λ h. refl)
+not_given (Some m) = (λ h. ap is_some h, λ h. let z : ◌≡◌ {A = ℕ} 0 1 = cc in absurd (omega arith))
 
-pub status_said_lem : (n : ℕ) (s : Proxy) → (status_of (pos n) s ≡ none) ↔ (Tracked n s.tracked → ⊥)
+pub status_said_lem : (n : ℕ) (s : Proxy) → (status_of (pos n) s ≡ None) ↔ (Tracked n s.tracked → ⊥)
 status_said_lem n s =
     let e = not_given (look n s.tracked) in
     (λ h. (not_tracked n s.tracked).0 (e.0 h), λ h. e.1 ((not_tracked n s.tracked).1 h))

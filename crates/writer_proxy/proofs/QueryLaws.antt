@@ -1,10 +1,10 @@
 -- Laws of `specs/Queries.antt`, and what `status_of` finds at a number's place. Assumes nothing.
-use Prim.Native.Nat.{ℕ, zero, suc, ◌<◌, ◌≤◌}
+use Prim.Native.Nat.{ℕ, ◌<◌, ◌≤◌}
 use native.Mathlib.Omega.{arith}
 use mathlib.Core.Logic.{◌⊎◌, inl, inr, ⊎_elim}
 use mathlib.Core.Path.{◌≡◌, refl, sym, ap, ◌∙◌}
-use mathlib.Core.Bool.{Bool, true}
-use mathlib.Core.Option.{none, some}
+use mathlib.Core.Bool.{true}
+use Rattle.std.specs.Prelude.{Option, None, Some, is_some}
 use mathlib.Core.List.{List}
 use lib.ListN.{length, get_or}
 use lib.Dec.{ltb}
@@ -12,41 +12,28 @@ use lib.IntN.{ℤ, pos, negsuc}
 use borrow.Author.Tests.{lt-ltb, le-ltb, eq-eqb, ne_eqb}
 use Rattle.sequence_number.specs.Number.{top, nat_of}
 use Rattle.outcome.proofs.Split.{split}
-use Rattle.proxy_record.specs.Entries.{NotAvailable, Received, look, is_given, is_tracked, Tracked}
+use Rattle.proxy_record.specs.Entries.{look, is_tracked, Tracked}
+use Rattle.proxy_record.specs.declared.Mark.{Mark}
 use Rattle.proxy_record.specs.State.{Proxy}
 use Rattle.proxy_record.specs.Rules.{ProxyRules, GoodProxy}
-use Rattle.proxy_record.specs.Words.{mark_of, number_in, kind_in, time_in, proxy_of, tracked_in}
+use Rattle.proxy_record.specs.Words.{number_in, proxy_of, tracked_in}
 use Rattle.proxy_record.specs.Rows.{blank_entry, rank}
 use Rattle.proxy_record.proofs.LookLaws.{is_tracked_lem, look_low, rank_next}
-use Rattle.proxy_record.proofs.WordsLaws.{mark_same}
-use Rattle.writer_proxy.specs.declared.query.Status.{Status}
-use Rattle.writer_proxy.specs.Queries.{ignored, status_said, status_of, last_received}
-
-mark_received : (k t : ℕ) → (k ≡ 0 → ⊥) → mark_of k t ≡ Received t
-mark_received zero t h = absurd (h refl)
-mark_received (suc k) t h = refl
+use Rattle.writer_proxy.specs.Queries.{ignored, status_of, last_received}
 
 -- `status_of`: the number's place is `at`
 module _ (w : List ℕ) (g : GoodProxy w) (n at : ℕ) (p : at ≡ rank n (tracked_in w)) where
-  found : (x k t : ℕ) → at < get_or w 1 0 → x ≡ number_in (get_or (tracked_in w) at blank_entry) → x ≡ n → k ≡ kind_in (get_or (tracked_in w) at blank_entry)
-      → t ≡ time_in (get_or (tracked_in w) at blank_entry) → look n (tracked_in w) ≡ some (mark_of k t)
-  found x k t h e f i j =
+  pub status_some : (x : ℕ) (m : Mark) → at < get_or w 1 0 → x ≡ number_in (get_or (tracked_in w) at blank_entry) → x ≡ n
+      → m ≡ (get_or (tracked_in w) at blank_entry).mark → Some m ≡ look n (tracked_in w)
+  status_some x m h e f i =
       let a : (get_or (tracked_in w) (rank n (tracked_in w)) blank_entry).number ≡ n = rw (← p) (sym e ∙ f) in
       let b : rank n (tracked_in w) < length (tracked_in w) = omega (arith, g.count) in
       ⊎_elim
-      (λ v. rw (i, j, mark_same (get_or (tracked_in w) at blank_entry).mark, p) v.0)
+      (λ v. rw (i, p) (sym v.0))
       (λ v. absurd (v.2 b a))
       (rank_next (proxy_of w).base top n (tracked_in w) g.ok.rising)
 
-  pub status_gone : (x k : ℕ) → at < get_or w 1 0 → x ≡ number_in (get_or (tracked_in w) at blank_entry) → x ≡ n → k ≡ kind_in (get_or (tracked_in w) at blank_entry) → k ≡ 0
-      → some NotAvailable ≡ look n (tracked_in w)
-  status_gone x k h e f i z = rw (found x k _ h e f i refl, z)
-
-  pub status_received : (x k t : ℕ) → at < get_or w 1 0 → x ≡ number_in (get_or (tracked_in w) at blank_entry) → x ≡ n → k ≡ kind_in (get_or (tracked_in w) at blank_entry)
-      → (k ≡ 0 → ⊥) → t ≡ time_in (get_or (tracked_in w) at blank_entry) → some (Received t) ≡ look n (tracked_in w)
-  status_received x k t h e f i z j = rw (found x k t h e f i j, mark_received k t z)
-
-  pub status_none : (at < get_or w 1 0 → number_in (get_or (tracked_in w) at blank_entry) ≡ n → ⊥) → none ≡ look n (tracked_in w)
+  pub status_none : (at < get_or w 1 0 → number_in (get_or (tracked_in w) at blank_entry) ≡ n → ⊥) → None ≡ look n (tracked_in w)
   status_none h =
       ⊎_elim
       (λ v.
@@ -74,18 +61,18 @@ ignored_else m (pos n) s o h = rw (le-ltb n s.base h)
 ignored_else m (negsuc n) s o h = absurd (omega (arith, o.low))
 
 -- the other queries
-pub last_none : (s : Proxy) (n : ℕ) → n ≡ s.last → n ≡ 0 → none ≡ last_received s
+pub last_none : (s : Proxy) (n : ℕ) → n ≡ s.last → n ≡ 0 → None ≡ last_received s
 unfolding last_received
 last_none s n e h = rw (eq-eqb s.last 0 (sym e ∙ h))
 
-pub last_some : (s : Proxy) (n t : ℕ) → n ≡ s.last → t ≡ s.time → (n ≡ 0 → ⊥) → some (n, t) ≡ last_received s
+pub last_some : (s : Proxy) (n t : ℕ) → n ≡ s.last → t ≡ s.time → (n ≡ 0 → ⊥) → Some (n, t) ≡ last_received s
 unfolding last_received
 last_some s n t e f h =
     let k : s.last ≡ 0 → ⊥ = λ z. h (e ∙ z) in
     rw (ne_eqb s.last 0 k, e, f)
 
 -- `should_ignore_change`, past the base: r is what `status_of` answered
-pub ignored_by : (m : ℕ) (n : ℤ) (k : ℕ) (s : Proxy) (r : Status) (b : Bool) → ProxyRules m s → k ≡ nat_of n → s.base ≤ k → status_said r ≡ look k s.tracked
-    → is_given (status_said r) ≡ b → b ≡ ignored n s
-ignored_by m n k s r b o e h q z =
-    sym z ∙ ap is_given q ∙ ap (λ (i : ℕ). is_tracked i s.tracked) e ∙ ignored_else m n s o (omega arith)
+pub ignored_by : (m : ℕ) (n : ℤ) (k : ℕ) (s : Proxy) (r : Option Mark) → ProxyRules m s → k ≡ nat_of n → s.base ≤ k → r ≡ look k s.tracked
+    → is_some r ≡ ignored n s
+ignored_by m n k s r o e h q =
+    ap is_some q ∙ ap (λ (i : ℕ). is_tracked i s.tracked) e ∙ ignored_else m n s o (omega arith)

@@ -2,7 +2,8 @@
 use Rattle.std.specs.Prelude.{ℕ, ◌-◌, cond, ltb, leb, ℤ, pos}
 use Rattle.std.specs.Int.Signed.{lt_z}
 use Rattle.sequence_number.specs.Number.{is_number, nat_of}
-use Rattle.proxy_record.specs.Entries.{Entry, Received}
+use Rattle.proxy_record.specs.Entries.{Entry}
+use Rattle.proxy_record.specs.declared.Mark.TheVariants.{Received}
 use Rattle.proxy_record.specs.State.{Proxy}
 use Rattle.proxy_steps.specs.Steps.{noted, put, followed, ProxyReply, ended_proxy, refused_proxy, unavailable, skipped, put_each}
 

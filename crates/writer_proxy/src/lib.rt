@@ -8,4 +8,5 @@ pub mod query;
 pub mod received;
 pub mod set_up;
 
-pub use proxy_steps::Report;
+pub use proxy_record::Mark;
+pub use proxy_steps::Forced;

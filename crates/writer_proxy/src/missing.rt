@@ -1,25 +1,16 @@
 // What is missing of the numbers that a heartbeat names.
-ghost use Rattle.std.specs.Prelude.{◌≡◌, map, ◌-◌, ◌≤◌, max, length, take, pos};
+ghost use Rattle.std.specs.Prelude.{◌≡◌, map, ◌-◌, ◌≤◌, length, take, pos};
 ghost use Rattle.sequence_number.specs.Number.{top};
 ghost use Rattle.outcome.specs.Lent.{over};
 ghost use Rattle.proxy_record.specs.Rules.{GoodProxy};
 ghost use Rattle.proxy_record.specs.Words.{proxy_of, tracked_in};
 ghost use Rattle.writer_proxy.specs.Missing.{untracked_from, missing_listed};
-ghost use Rattle.outcome.specs.Answers.{listing_said};
+ghost use Rattle.outcome.specs.Refusal.{said};
 
-use outcome::Listing;
+use outcome::Refusal;
 use proxy_record::layout::{BASE, COUNT};
 use proxy_record::rows;
 use sequence_number::number::natural;
-
-fn larger(a: u64, b: u64) -> u64
-    ensures { result ≡ max a b }
-{
-    if a < b {
-        return b;
-    }
-    a
-}
 
 // How many of the numbers from lo until before hi are missing: told by the places of the two, so that none is walked.
 fn count_missing(t: &[u64], lo: u64, hi: u64) -> u64
@@ -38,40 +29,33 @@ fn list_missing(t: &[u64], lo: u64, hi: u64, out: &mut [i64])
 {
     let len = t[COUNT] as usize;
     let mut i = rows::place(t, lo);
-    let mut w: usize = 0;
-    let mut n = lo;
-    while n < hi {
-        if i < len {
-            if rows::number_at(t, i) == n {
-                i += 1;
-                n += 1;
-                continue;
-            }
-        }
-        if w == out.len() {
+    let mut w = 0;
+    for n in lo..hi {
+        if i < len && rows::number_at(t, i) == n {
+            i += 1;
+        } else if w < out.len() {
+            out[w] = n as i64;
+            w += 1;
+        } else {
             return;
         }
-        out[w] = n as i64;
-        w += 1;
-        n += 1;
     }
 }
 
 // The missing numbers of a heartbeat's range, its end included, to the lent list. Refused with 4: the end is 2^63 - 1; then with 3: the list is too short.
-pub fn missing_seqnums(t: &[u64], start: i64, end: i64, out: &mut [i64]) -> Listing
+pub fn missing_seqnums(t: &[u64], start: i64, end: i64, out: &mut [i64]) -> Result<usize, Refusal>
     requires { GoodProxy t.now }
-    ensures { (listing_said result ≡ (missing_listed start end (proxy_of t.now) out.old).answer) × (out.new ≡ (missing_listed start end (proxy_of t.now) out.old).list) }
+    ensures { (said result ≡ (missing_listed start end (proxy_of t.now) out.old).answer) × (out.new ≡ (missing_listed start end (proxy_of t.now) out.old).list) }
 {
-    let last = natural(end);
-    if last == 9223372036854775807 {
-        return Listing::Refused(4);
+    if end == i64::MAX {
+        return Err(Refusal::NoNumber);
     }
-    let lo = larger(t[BASE], natural(start));
-    let hi = larger(lo, last + 1);
+    let lo = t[BASE].max(natural(start));
+    let hi = lo.max(natural(end) + 1);
     let count = count_missing(t, lo, hi);
     if (out.len() as u64) < count {
-        return Listing::Refused(3);
+        return Err(Refusal::ShortOutput);
     }
     list_missing(t, lo, hi, out);
-    Listing::Listed(count as usize)
+    Ok(count as usize)
 }

@@ -3,26 +3,11 @@ ghost use Rattle.std.specs.Prelude.{◌≡◌};
 ghost use Rattle.proxy_record.specs.Rules.{GoodProxy};
 ghost use Rattle.proxy_record.specs.Words.{proxy_of, tracked_in};
 ghost use Rattle.proxy_record.specs.Entries.{look};
-ghost use Rattle.writer_proxy.specs.Queries.{status_said, status_of, ignored, last_received_said, last_received};
+ghost use Rattle.writer_proxy.specs.Queries.{status_of, ignored, last_received};
 
-use proxy_record::layout::{BASE, COUNT, LAST, NOT_AVAILABLE, TIME};
-use proxy_record::rows;
+use proxy_record::layout::{BASE, COUNT, LAST, TIME};
+use proxy_record::{Mark, rows};
 use sequence_number::number::natural;
-
-// What the table says of a number: nothing, that it is not available, or that it was received at a time.
-#[derive(Drop)]
-pub enum Status {
-    Untracked,
-    NotAvailable,
-    Received(u64),
-}
-
-// The last received number with its time, or nothing where none was received.
-#[derive(Drop)]
-pub enum LastReceived {
-    Nothing,
-    Number(u64, u64),
-}
 
 // The bound below which everything may be acknowledged: received, not available, or given up by a forced step.
 pub fn all_ackable_before(t: &[u64]) -> u64
@@ -32,42 +17,32 @@ pub fn all_ackable_before(t: &[u64]) -> u64
     t[BASE]
 }
 
-// The greatest number received, and its time: the Rust's `last_change_timestamp`, with the number.
-pub fn last_received(t: &[u64]) -> LastReceived
+// The greatest number received, and its time: the Rust's `last_change_timestamp`, with the number. Nothing where none was received.
+pub fn last_received(t: &[u64]) -> Option<(u64, u64)>
     requires { GoodProxy t.now }
-    ensures { last_received_said result ≡ last_received (proxy_of t.now) }
+    ensures { result ≡ last_received (proxy_of t.now) }
 {
-    let n = t[LAST];
-    if n == 0 {
-        return LastReceived::Nothing;
+    if t[LAST] == 0 {
+        return None;
     }
-    let time = t[TIME];
-    LastReceived::Number(n, time)
+    Some((t[LAST], t[TIME]))
 }
 
-fn status_of(t: &[u64], n: u64) -> Status
+fn status_of(t: &[u64], n: u64) -> Option<Mark>
     requires { GoodProxy t.now }
-    ensures { status_said result ≡ look n (tracked_in t.now) }
+    ensures { result ≡ look n (tracked_in t.now) }
 {
-    let len = t[COUNT] as usize;
     let at = rows::place(t, n);
-    if at < len {
-        if rows::number_at(t, at) == n {
-            let kind = rows::kind_at(t, at);
-            if kind == NOT_AVAILABLE {
-                return Status::NotAvailable;
-            }
-            let time = rows::time_at(t, at);
-            return Status::Received(time);
-        }
+    if at < t[COUNT] as usize && rows::number_at(t, at) == n {
+        return Some(rows::mark_at(t, at));
     }
-    Status::Untracked
+    None
 }
 
 // The mark of a tracked number; of a number below the base, tracked no more, nothing. Not in the Rust.
-pub fn change_status(t: &[u64], number: i64) -> Status
+pub fn change_status(t: &[u64], number: i64) -> Option<Mark>
     requires { GoodProxy t.now }
-    ensures { status_said result ≡ status_of number (proxy_of t.now) }
+    ensures { result ≡ status_of number (proxy_of t.now) }
 {
     status_of(t, natural(number))
 }
@@ -78,13 +53,5 @@ pub fn should_ignore_change(t: &[u64], number: i64) -> bool
     ensures { result ≡ ignored number (proxy_of t.now) }
 {
     let n = natural(number);
-    if n < t[BASE] {
-        return true;
-    }
-    let s = status_of(t, n);
-    match s {
-        Status::Untracked => false,
-        Status::NotAvailable => true,
-        Status::Received(_) => true,
-    }
+    n < t[BASE] || status_of(t, n).is_some()
 }

@@ -1,16 +1,10 @@
 -- `proxy_steps::base::enforce_change_map_cap` meets its contract: 257 are tracked at most, so one step is enough. Assumes nothing.
 use native.Mathlib.Omega.{arith}
-use Rattle.proxy_steps.proofs.BaseLaws.{cap_none, cap_top, cap_one}
+use Rattle.proxy_steps.proofs.BaseLaws.{cap_none, cap_one}
 use Rattle.proxy_steps.proofs.base.enforce_change_map_cap.Goals as goal
-use Rattle.proxy_steps.proofs.base.enforce_change_map_cap.Goals.{then-new-next, else-new-next}
 
 pub returns-then-len-le-CAP : goal.returns-then-len-le-CAP
 returns-then-len-le-CAP c = cap_none _ c.requires (omega (arith, c.if-len-le-CAP.true))
 
-pub overflow_add-next : goal.overflow_add-next
-overflow_add-next c = omega (arith, cap_top _ c.requires _ c.if-len-le-CAP.false c.number_at-x.ensures)
-
 pub returns : goal.returns
-returns c =
-    cap_one _ c.requires _ _ _ c.if-len-le-CAP.false c.number_at-x.ensures
-    (elim c.if-new-next.branch [ then-new-next w ↦ omega arith | else-new-next w ↦ omega arith ]) c.shut_rows.ensures
+returns c = cap_one _ c.requires _ _ _ c.if-len-le-CAP.false c.number_at.ensures c.max-new.ensures c.shut_rows.ensures

@@ -36,28 +36,24 @@ returns-then-total c = range_few c.args.t.now c.requires.0 c.args.a c.args.b _ _
 
 -- entries below the range go
 
-pub number_at-e-requires : goal.number_at-e-requires
-number_at-e-requires c =
+pub number_at-new-requires : goal.number_at-new-requires
+number_at-new-requires c =
     (good_more _ c.requires.0, omega (arith, place _ _ _ c.requires.0 c.place-x.ensures, c.requires.0.count, c.if-total.false, c.if-k-x.true))
 
 pub shut_rows-requires : goal.shut_rows-requires
 shut_rows-requires c = (good_more _ c.requires.0, c.requires.0.count, omega (arith, place _ _ _ c.requires.0 c.place-x.ensures, c.if-k-x.true))
 
-pub overflow_add-t : goal.overflow_add-t
-overflow_add-t c =
-    omega (arith, low_below c.args.t.now c.requires.0 c.args.a c.args.b _ _ _ c.requires.1 c.requires.2 c.requires.3 c.place-x.ensures c.place-y.ensures refl c.if-total.false c.if-k-x.true _ c.number_at-e.ensures c.shut_rows.new.t c.shut_rows.ensures, c.requires.2, c.requires.3)
+pub overflow_add-new : goal.overflow_add-new
+overflow_add-new c =
+    omega (arith, low_below c.args.t.now c.requires.0 c.args.a c.args.b _ _ _ c.requires.1 c.requires.2 c.requires.3 c.place-x.ensures c.place-y.ensures refl c.if-total.false c.if-k-x.true _ c.number_at-new.ensures, c.requires.2, c.requires.3)
 
 pub fill-requires-then-k-x : goal.fill-requires-then-k-x
 fill-requires-then-k-x c =
-    room_low c.args.t.now c.requires.0 c.args.a c.args.b _ _ _ c.requires.1 c.requires.2 c.requires.3 c.place-x.ensures c.place-y.ensures refl c.if-total.false c.if-k-x.true _ c.number_at-e.ensures c.shut_rows.new.t c.shut_rows.ensures
-
-pub overflow_add-result : goal.overflow_add-result
-overflow_add-result c =
-    omega (arith, low_below c.args.t.now c.requires.0 c.args.a c.args.b _ _ _ c.requires.1 c.requires.2 c.requires.3 c.place-x.ensures c.place-y.ensures refl c.if-total.false c.if-k-x.true _ c.number_at-e.ensures c.shut_rows.new.t c.shut_rows.ensures, c.requires.2, c.requires.3)
+    room_low c.args.t.now c.requires.0 c.args.a c.args.b _ _ _ c.requires.1 c.requires.2 c.requires.3 c.place-x.ensures c.place-y.ensures refl c.if-total.false c.if-k-x.true _ c.number_at-new.ensures c.shut_rows.new.t c.shut_rows.ensures
 
 pub returns-then-k-x : goal.returns-then-k-x
 returns-then-k-x c =
-    range_low c.args.t.now c.requires.0 c.args.a c.args.b _ _ _ c.requires.1 c.requires.2 c.requires.3 c.place-x.ensures c.place-y.ensures refl c.if-total.false c.if-k-x.true _ c.number_at-e.ensures c.shut_rows.new.t c.shut_rows.ensures _ c.fill-then-k-x.ensures
+    range_low c.args.t.now c.requires.0 c.args.a c.args.b _ _ _ c.requires.1 c.requires.2 c.requires.3 c.place-x.ensures c.place-y.ensures refl c.if-total.false c.if-k-x.true _ c.number_at-new.ensures c.shut_rows.new.t c.shut_rows.ensures _ c.fill-then-k-x.ensures
 
 -- entries below the range and the range's own first numbers go
 

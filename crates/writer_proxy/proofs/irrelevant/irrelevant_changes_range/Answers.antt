@@ -6,6 +6,7 @@ use lib.Signed.{lt_z}
 use Rattle.sequence_number.specs.Number.{nat_of}
 use Rattle.sequence_number.proofs.NumberLaws.{nat_top, nat_passed}
 use Rattle.sequence_number.proofs.SignedLaws.{test_back}
+use Rattle.std.specs.Prelude.{Ok}
 use Rattle.writer_proxy.proofs.CallsInPlace.{range_refused, range_keeps, range_order, range_skips, range_above_base, range_puts}
 use Rattle.writer_proxy.proofs.irrelevant.irrelevant_changes_range.Goals as goal
 use Rattle.writer_proxy.proofs.irrelevant.irrelevant_changes_range.Goals.{After-natural-b}
@@ -49,5 +50,5 @@ pub returns : goal.returns
 returns c =
     let a = c.args in
     let e = ends (goal.at.returns c).After-natural-b in
-    let d = range_puts a.from a.until c.ranges.until a.t.now c.requires e.0 _ _ e.1 e.2 c.range_above.result _ c.if-a-t.false c.range_above.ensures in
+    let d = range_puts a.from a.until c.ranges.until a.t.now c.requires e.0 _ _ e.1 e.2 (Ok c.range_above.result) _ c.if-a-t.false c.range_above.ensures in
     record { proxy_answers = d; good_proxy = range_keeps a.from a.until c.ranges.until a.t.now c.requires _ d.1 }

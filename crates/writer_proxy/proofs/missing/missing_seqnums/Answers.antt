@@ -1,57 +1,54 @@
 -- `writer_proxy::missing::missing_seqnums` meets its contract: the two ends are those of `missing_numbers`, and each answer is a case of `missing_listed`. Assumes nothing.
 use Prim.Native.Nat.{◌-◌, ◌≤◌}
 use native.Mathlib.Omega.{arith}
-use mathlib.Core.Path.{◌≡◌, sym, ap, ◌∙◌}
+use mathlib.Core.Path.{◌≡◌, ap, ◌∙◌}
 use mathlib.Core.List.{map}
 use lib.ListN.{length, length-map}
 use lib.Seq.{take_all}
 use lib.IntN.{pos}
 use Rattle.sequence_number.specs.Number.{top, nat_of}
 use Rattle.proxy_record.specs.Words.{proxy_of, tracked_in}
-use Rattle.sequence_number.proofs.NumberLaws.{nat_top, nat_passed}
 use Rattle.writer_proxy.specs.Missing.{untracked_from, missing_numbers}
 use Rattle.writer_proxy.proofs.MissingLaws.{listed_last, listed_short, listed_all}
-use Rattle.writer_proxy.proofs.MissingInPlace.{end_open, ends_order, ends_list}
+use Rattle.writer_proxy.proofs.MissingInPlace.{last_is, end_open, ends_order, ends_list}
 use Rattle.writer_proxy.proofs.missing.missing_seqnums.Goals as goal
-use Rattle.writer_proxy.proofs.missing.missing_seqnums.Goals.{After-larger-hi}
+use Rattle.writer_proxy.proofs.missing.missing_seqnums.Goals.{After-max-hi}
 
 -- the two ends are found: the heartbeat's end is open, they are in order, and what lies between them is the list
-ends : (c : After-larger-hi)
-    → let lo = c.larger-lo.result in
-    let hi = c.larger-hi.result in
+ends : (c : After-max-hi)
+    → let lo = c.max-lo.result in
+    let hi = c.max-hi.result in
     (nat_of c.args.end ≡ top → ⊥) × (lo ≤ hi) × (hi ≤ top) × (untracked_from lo (hi - lo) (tracked_in c.args.t.now) ≡ missing_numbers c.args.start c.args.end (proxy_of c.args.t.now))
 ends c =
     let a = c.args in
-    let o = ends_order a.start a.end c.ranges.start c.ranges.end a.t.now c.requires _ _ _ _ c.natural-last.ensures c.natural.ensures c.if-last-eq9223372036854775807.false c.larger-lo.ensures c.larger-hi.ensures in (
-      end_open a.start a.end c.ranges.start c.ranges.end a.t.now c.requires _ _ _ _ c.natural-last.ensures c.natural.ensures c.if-last-eq9223372036854775807.false c.larger-lo.ensures c.larger-hi.ensures,
+    let n = c.if-end-eq9223372036854775807.false in
+    let o = ends_order a.start a.end c.ranges.start c.ranges.end a.t.now c.requires _ _ _ _ c.natural-2.ensures c.natural.ensures n c.max-lo.ensures c.max-hi.ensures in (
+      end_open a.start a.end c.ranges.start c.ranges.end a.t.now c.requires _ _ _ _ c.natural-2.ensures c.natural.ensures n c.max-lo.ensures c.max-hi.ensures,
       o.0,
       o.1,
-      ends_list a.start a.end c.ranges.start c.ranges.end a.t.now c.requires _ _ _ _ c.natural-last.ensures c.natural.ensures c.if-last-eq9223372036854775807.false c.larger-lo.ensures c.larger-hi.ensures,
+      ends_list a.start a.end c.ranges.start c.ranges.end a.t.now c.requires _ _ _ _ c.natural-2.ensures c.natural.ensures n c.max-lo.ensures c.max-hi.ensures,
     )
 
-pub returns-then-last-eq9223372036854775807 : goal.returns-then-last-eq9223372036854775807
-returns-then-last-eq9223372036854775807 c =
+pub returns-then-end-eq9223372036854775807 : goal.returns-then-end-eq9223372036854775807
+returns-then-end-eq9223372036854775807 c =
     let a = c.args in
-    listed_last a.start a.end (proxy_of a.t.now) a.out.now (sym (nat_passed a.end _ c.ranges.end c.natural-last.ensures) ∙ c.if-last-eq9223372036854775807.true)
-
-pub overflow_add-last : goal.overflow_add-last
-overflow_add-last c = omega (arith, nat_passed c.args.end _ c.ranges.end c.natural-last.ensures, nat_top c.args.end c.ranges.end)
+    listed_last a.start a.end (proxy_of a.t.now) a.out.now (last_is a.end c.ranges.end c.if-end-eq9223372036854775807.true)
 
 pub returns-then-out-count : goal.returns-then-out-count
 returns-then-out-count c =
     let a = c.args in
-    let e = ends (goal.at.returns-then-out-count c).After-larger-hi in
+    let e = ends (goal.at.returns-then-out-count c).After-max-hi in
     listed_short a.start a.end (proxy_of a.t.now) a.out.now e.0 (omega (arith, c.count_missing-count.ensures, ap length e.3, c.if-out-count.true))
 
 pub list_missing-requires : goal.list_missing-requires
 list_missing-requires c =
-    let e = ends (goal.at.list_missing-requires c).After-larger-hi in
+    let e = ends (goal.at.list_missing-requires c).After-max-hi in
     (c.requires, e.1, e.2)
 
 pub returns : goal.returns
 returns c =
     let a = c.args in
-    let e = ends (goal.at.returns c).After-larger-hi in
+    let e = ends (goal.at.returns c).After-max-hi in
     let m = missing_numbers a.start a.end (proxy_of a.t.now) in
     let k : length m ≤ length a.out.now = omega (arith, c.count_missing-count.ensures, ap length e.3, c.if-out-count.false) in
     let l : length (map pos m) ≤ length a.out.now = simp length-map k in
