@@ -2,8 +2,8 @@
 -- references and in lent lists. Assumes nothing.
 use Rattle.std.specs.Prelude.{ℕ, ◌≡◌, Bool, cond, List}
 use Rattle.outcome.specs.Outcome.{Outcome, refused, done, refusal, left}
-use Rattle.number_set.specs.SetWire.{Taken}
-use Rattle.number_set.specs.NumberSet.{NumberSet}
+use Rattle.number_set.specs.declared.set.Taken.{Taken}
+use Rattle.number_set.specs.declared.set.NumberSet.{NumberSet}
 use Rattle.sequence_number.specs.declared.ByteOrder.{ByteOrder}
 use Rattle.sequence_number.specs.declared.ByteOrder.TheVariants.{Big, Little}
 

@@ -1,9 +1,9 @@
 -- What the proxy's exported calls promise: the proxy's own definitions, each answer by its number and its values. Assumes nothing.
-use Rattle.std.specs.Prelude.{ℕ, ◌≡◌, List, ℤ}
-use Rattle.std.proofs.Math.Option.{Option, none, some}
+use Rattle.std.specs.Prelude.{ℕ, ◌≡◌, List, ℤ, Option, Some, None}
 use Rattle.outcome.specs.Answers.{ListReply}
 use Rattle.outcome.specs.Outcome.{Outcome, refused, done, refusal}
-use Rattle.proxy_record.specs.Entries.{Mark, NotAvailable, Received}
+use Rattle.proxy_record.specs.declared.Mark.{Mark}
+use Rattle.proxy_record.specs.declared.Mark.TheVariants.{NotAvailable, Received}
 use Rattle.proxy_record.specs.Rules.{GoodProxy}
 use Rattle.proxy_record.specs.Words.{proxy_words}
 use Rattle.proxy_steps.specs.Steps.{Forcing, unforced, forced, ProxyReply}
@@ -35,20 +35,20 @@ pub record ListsMissing (x : ListReply ℤ) (before r after : ℕ) (list : List 
 
 -- a status: 0 untracked, 1 not available, 2 received; and behind a reference the time of a received number, else what was there
 abbrev pub status_number : Option Mark → ℕ
-status_number none = 0
-status_number (some NotAvailable) = 1
-status_number (some (Received t)) = 2
+status_number None = 0
+status_number (Some NotAvailable) = 1
+status_number (Some (Received t)) = 2
 
 abbrev pub status_time : Option Mark → ℕ → ℕ
-status_time none before = before
-status_time (some NotAvailable) before = before
-status_time (some (Received t)) before = t
+status_time None before = before
+status_time (Some NotAvailable) before = before
+status_time (Some (Received t)) before = t
 
 -- the last received number, 0 for none; and behind a reference its time, else what was there
 abbrev pub last_number : Option (ℕ × ℕ) → ℕ
-last_number none = 0
-last_number (some p) = p.0
+last_number None = 0
+last_number (Some p) = p.0
 
 abbrev pub last_time : Option (ℕ × ℕ) → ℕ → ℕ
-last_time none before = before
-last_time (some p) before = p.1
+last_time None before = before
+last_time (Some p) before = p.1
