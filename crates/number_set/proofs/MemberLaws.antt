@@ -14,13 +14,14 @@ use lib.Dec.{ltb, eqb, T}
 use borrow.Author.Tests.{lt-ltb, le-ltb, eq-eqb, eqb-true}
 use Rattle.sequence_number.specs.Kind.{Kind}
 use Rattle.bitmap.specs.Bitmap.{has_bit, set_bit, only_if, positions, zero_words}
-use Rattle.number_set.specs.NumberSet.{NumberSet, members}
-use Rattle.bitmap.specs.Marking.{marked_to}
+use Rattle.number_set.specs.NumberSet.{members}
+use Rattle.number_set.specs.declared.set.NumberSet.{NumberSet}
+use Rattle.bitmap.specs.Marking.{set_bits}
 use Rattle.number_set.specs.Make.{is_rising, smaller, set_from}
-use Rattle.outcome.proofs.Split.{split_lt}
-use Rattle.sequence_number.proofs.KindLaws.{Lawful}
+use Rattle.outcome.proofs.Split.{split, split_lt}
+use Rattle.sequence_number.specs.Lawful.{Lawful}
 use Rattle.bitmap.proofs.BitLaws.{set_has}
-use Rattle.number_set.proofs.MakeLaws.{spanned_small, none_below, marked_indexed}
+use Rattle.number_set.proofs.MakeLaws.{spanned_small, none_below}
 
 -- ---- which positions are listed
 
@@ -128,15 +129,6 @@ members_fall k law s i j h l =
 
 -- ---- what a made set holds
 
-length_marked : {A : Type 0} (place : A → ℕ) (d : A) (xs : List A) (count n : ℕ) → length (marked_to place d xs count n) ≡ 8
-length_marked place d xs count zero = refl
-length_marked place d xs count (suc n) = go (ltb (place (get_or xs n d)) count) (length_marked place d xs count n)
-  where
-    go : (b : Bool) → length (marked_to place d xs count n) ≡ 8
-        → length (cond b (set_bit (marked_to place d xs count n) (place (get_or xs n d))) (marked_to place d xs count n)) ≡ 8
-    go true e = simp length-set e
-    go false e = e
-
 none_marked : (i : ℕ) → has_bit zero_words i ≡ false
 none_marked i = ap (λ (w : ℕ). eqb (w / 2 ^ (31 - i % 32) % 2) 1) (zero_at 8 (i / 32)) ∙ ap (λ (w : ℕ). eqb (w % 2) 1) (zero-div (2 ^ (31 - i % 32)))
   where
@@ -149,51 +141,49 @@ or_cases : (a b : Bool) → (a || b) ≡ true → (a ≡ true) ⊎ (b ≡ true)
 or_cases true b e = inl refl
 or_cases false b e = inr e
 
-module _ {A : Type 0} (place : A → ℕ) (d : A) (xs : List A) (count : ℕ) (small : count ≤ 256) where
-  after_mark : (n i : ℕ) → place (get_or xs n d) < count
-      → has_bit (marked_to place d xs count (suc n)) i ≡ (has_bit (marked_to place d xs count n) i || eqb (place (get_or xs n d)) i)
-  after_mark n i h =
-      rw (lt-ltb (place (get_or xs n d)) count h)
-      (set_has (marked_to place d xs count n) (place (get_or xs n d)) i (omega (arith, length_marked place d xs count n)))
+module _ {A : Type 0} (place : A → ℕ) (count : ℕ) (small : count ≤ 256) where
+  -- the words after one element
+  abbrev one_more : List ℕ → A → List ℕ
+  one_more ws x = cond (ltb (place x) count) (set_bit ws (place x)) ws
 
-  marked_bit : (n i : ℕ) → has_bit (marked_to place d xs count n) i ≡ true → (j : ℕ) × (j < n) × (place (get_or xs j d) ≡ i)
-  marked_bit zero i e = let z : true ≡ false = sym e ∙ none_marked i in absurd (subst T z tt)
-  marked_bit (suc n) i e =
+  length_more : (ws : List ℕ) (x : A) → length ws ≡ 8 → length (one_more ws x) ≡ 8
+  length_more ws x e = split (ltb (place x) count) (λ b. rw b (simp length-set e)) (λ b. rw b e)
+
+  after_mark : (ws : List ℕ) (x : A) (i : ℕ) → length ws ≡ 8 → place x < count → has_bit (one_more ws x) i ≡ (has_bit ws i || eqb (place x) i)
+  after_mark ws x i e h = rw (lt-ltb (place x) count h) (set_has ws (place x) i (omega arith))
+
+  bit_kept : (ws : List ℕ) (xs : List A) (i : ℕ) → length ws ≡ 8 → has_bit ws i ≡ true → has_bit (set_bits place count ws xs) i ≡ true
+  bit_kept ws [] i e b = b
+  bit_kept ws (x ∷ xs) i e b =
+      bit_kept (one_more ws x) xs i (length_more ws x e)
+      (⊎_elim (λ h. after_mark ws x i e h ∙ ap (λ (c : Bool). c || eqb (place x) i) b) (λ h. rw (le-ltb (place x) count h) b) (split_lt (place x) count))
+
+  marked_bit : (ws : List ℕ) (xs : List A) (i : ℕ) → length ws ≡ 8 → has_bit (set_bits place count ws xs) i ≡ true
+      → (has_bit ws i ≡ true) ⊎ ((x : A) × Memᴰ x xs × (place x ≡ i))
+  marked_bit ws [] i e b = inl b
+  marked_bit ws (x ∷ xs) i e b =
+      ⊎_elim
+      (λ c.
       ⊎_elim
       (λ h.
-      ⊎_elim
-      (λ f. let r = marked_bit n i f in (r.0, omega arith, r.2))
-      (λ f. (n, omega arith, eqb-true (place (get_or xs n d)) i f))
-      (or_cases (has_bit (marked_to place d xs count n) i) (eqb (place (get_or xs n d)) i) (sym (after_mark n i h) ∙ e)))
-      (λ h. let r = marked_bit n i (rw (le-ltb (place (get_or xs n d)) count h) at e) in (r.0, omega arith, r.2))
-      (split_lt (place (get_or xs n d)) count)
+      ⊎_elim (λ d. inl d) (λ d. inr (x, Memᴰ.head refl, eqb-true (place x) i d)) (or_cases (has_bit ws i) (eqb (place x) i) (sym (after_mark ws x i e h) ∙ c)))
+      (λ h. inl (rw (le-ltb (place x) count h) at c))
+      (split_lt (place x) count))
+      (λ r. inr (r.0, Memᴰ.tail r.1, r.2))
+      (marked_bit (one_more ws x) xs i (length_more ws x e) b)
 
-  bit_marked : (n j : ℕ) → j < n → place (get_or xs j d) < count → has_bit (marked_to place d xs count n) (place (get_or xs j d)) ≡ true
-  bit_marked zero j h p = absurd (omega arith)
-  bit_marked (suc n) j h p =
+  bit_marked : (ws : List ℕ) (xs : List A) (x : A) → length ws ≡ 8 → Memᴰ x xs → place x < count → has_bit (set_bits place count ws xs) (place x) ≡ true
+  bit_marked ws [] x e m h = absurd (Memᴰ.not-nil m)
+  bit_marked ws (y ∷ xs) x e m h =
       ⊎_elim
-      (λ l.
-      ⊎_elim
-      (λ q. after_mark n (place (get_or xs j d)) q ∙ ap (λ (b : Bool). b || eqb (place (get_or xs n d)) (place (get_or xs j d))) (bit_marked n j l p))
-      (λ q. rw (le-ltb (place (get_or xs n d)) count q) (bit_marked n j l p))
-      (split_lt (place (get_or xs n d)) count))
-      (λ l.
-      let e : j ≡ n = omega arith in
-      let f : place (get_or xs n d) ≡ place (get_or xs j d) = ap (λ (m : ℕ). place (get_or xs m d)) (sym e) in
-      after_mark n (place (get_or xs j d)) (subst (λ (m : ℕ). m < count) (sym f) p)
-      ∙ ap (λ (b : Bool). has_bit (marked_to place d xs count n) (place (get_or xs j d)) || b) (eq-eqb (place (get_or xs n d)) (place (get_or xs j d)) f)
-      ∙ or-true (has_bit (marked_to place d xs count n) (place (get_or xs j d))))
-      (split_lt j n)
-
-mem_index : {A : Type 0} (d x : A) (l : List A) → Memᴰ x l → (j : ℕ) × (j < length l) × (get_or l j d ≡ x)
-mem_index d x [] m = absurd (Memᴰ.not-nil m)
-mem_index d x (y ∷ l) m =
-    ⊎_elim (λ e. (0, omega arith, sym e)) (λ n. let r = mem_index d x l n in (suc r.0, omega arith, r.2)) (Memᴰ.cases_cons m)
-
-index_mem : {A : Type 0} (d : A) (l : List A) (j : ℕ) → j < length l → Memᴰ (get_or l j d) l
-index_mem d [] j h = absurd (omega arith)
-index_mem d (y ∷ l) zero h = Memᴰ.head refl
-index_mem d (y ∷ l) (suc j) h = Memᴰ.tail (index_mem d l j (le_of_suc-le-suc h))
+      (λ p.
+      let f : place y ≡ place x = ap place (sym p) in
+      bit_kept (one_more ws y) xs (place x) (length_more ws y e)
+      (after_mark ws y (place x) e (omega arith)
+      ∙ ap (λ (b : Bool). has_bit ws (place x) || b) (eq-eqb (place y) (place x) f)
+      ∙ or-true (has_bit ws (place x))))
+      (λ n. bit_marked (one_more ws y) xs x (length_more ws y e) n h)
+      (Memᴰ.cases_cons m)
 
 -- "list members through last are set": a made set that is not empty at 1 holds exactly the list's members below base + count
 module _ {N : Type 0} (k : Kind N) (law : Lawful k) (base x : N) (xs : List N) (r : is_rising k (x ∷ xs) ≡ true)
@@ -207,25 +197,18 @@ module _ {N : Type 0} (k : Kind N) (law : Lawful k) (base x : N) (xs : List N) (
   one_least : 1 ≤ law.rank (smaller k base x)
   one_least = omega (arith, law.rank_least, law.rank_above k.least (smaller k base x) above)
 
-  words_indexed : marked_to (k.apart low) k.nought (x ∷ xs) made.count (length (x ∷ xs)) ≡ made.words
-  words_indexed = marked_indexed (k.apart low) k.nought (x ∷ xs) made.count
-
   pub made_member : Memᴰ n (members k made) → Memᴰ n (x ∷ xs) × (k.apart low n < made.count)
   made_member m =
       let b = member_bit k made n m in
-      let j = marked_bit (k.apart low) k.nought (x ∷ xs) made.count (spanned_small (k.apart low last)) (length (x ∷ xs)) b.0 (ap (λ (ws : List ℕ). has_bit ws b.0) words_indexed ∙ b.2) in
-      let y : N = get_or (x ∷ xs) j.0 k.nought in
-      let e : n ≡ y =
-      b.3 ∙ ap (k.plus low) (sym j.2) ∙ law.plus_apart low y one_least (none_below k law base (x ∷ xs) r low refl j.0 j.1) in
-      (Memᴰ.cast e (index_mem k.nought (x ∷ xs) j.0 j.1), subst (λ (i : ℕ). i < made.count) (sym (ap (k.apart low) e ∙ j.2)) b.1)
+      ⊎_elim
+      (λ z. let f : true ≡ false = sym z ∙ none_marked b.0 in absurd (subst T f tt))
+      (λ j.
+      let e : n ≡ j.0 =
+      b.3 ∙ ap (k.plus low) (sym j.2) ∙ law.plus_apart low j.0 one_least (none_below k law base x xs r j.0 j.1) in
+      (Memᴰ.cast e j.1, subst (λ (i : ℕ). i < made.count) (sym (ap (k.apart low) e ∙ j.2)) b.1))
+      (marked_bit (k.apart low) made.count (spanned_small (k.apart low last)) zero_words (x ∷ xs) b.0 refl b.2)
 
   pub member_made : Memᴰ n (x ∷ xs) → k.apart low n < made.count → Memᴰ n (members k made)
   member_made m h =
-      let j = mem_index k.nought n (x ∷ xs) m in
-      let f : k.apart low (get_or (x ∷ xs) j.0 k.nought) ≡ k.apart low n = ap (k.apart low) j.2 in
-      let b : has_bit made.words (k.apart low n) ≡ true =
-      (λ i. has_bit (sym words_indexed i) (sym f i))
-      ∙ bit_marked (k.apart low) k.nought (x ∷ xs) made.count (spanned_small (k.apart low last)) (length (x ∷ xs)) j.0 j.1
-      (subst (λ (i : ℕ). i < made.count) (sym f) h) in
-      let g : law.rank low ≤ law.rank n = subst (λ (y : N). law.rank low ≤ law.rank y) j.2 (none_below k law base (x ∷ xs) r low refl j.0 j.1) in
-      bit_member k made n (k.apart low n) h b (sym (law.plus_apart low n one_least g))
+      let b = bit_marked (k.apart low) made.count (spanned_small (k.apart low last)) zero_words (x ∷ xs) n refl m h in
+      bit_member k made n (k.apart low n) h b (sym (law.plus_apart low n one_least (none_below k law base x xs r n m)))

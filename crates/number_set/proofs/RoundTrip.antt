@@ -4,20 +4,22 @@ use mathlib.Core.Path.{◌≡◌, refl, ap, ◌∙◌, sym}
 use mathlib.Core.Logic.{⊎_elim}
 use mathlib.Core.List.{List, [], ◌∷◌, ◌++◌, append_assoc}
 use native.Mathlib.Omega.{arith}
+use borrow.Author.Rules.{rules}
 use lib.ListN.{length, get_or, take, drop, replicate, length-append}
 use lib.Seq.{take-suc}
 use Rattle.outcome.specs.Outcome.{done, found}
 use Rattle.outcome.specs.Lent.{over}
 use Rattle.sequence_number.specs.Word.{word_at, word_bytes}
 use Rattle.sequence_number.specs.Kind.{Kind}
-use Rattle.number_set.specs.NumberSet.{NumberSet}
+use Rattle.number_set.specs.declared.set.NumberSet.{NumberSet}
 use Rattle.set_words.specs.SetWords.{word_count, set_length, words_from, read_count, words_bytes, bits_bytes}
 use Rattle.number_set.specs.SetWire.{taken_set, read_set, set_bytes}
 use Rattle.sequence_number.specs.declared.ByteOrder.{ByteOrder}
 use Rattle.outcome.proofs.Split.{split_lt}
-use Rattle.sequence_number.proofs.KindLaws.{Lawful}
-use Rattle.sequence_number.proofs.WordLaws.{length_bytes, word_bytes_lem, word_append}
-use Rattle.set_words.proofs.SetWordsLaws.{length_words_bytes, count_done}
+use Rattle.sequence_number.specs.Lawful.{Lawful, ReadsBack}
+use Rattle.sequence_number.specs.Keeps.{length_bytes}
+use Rattle.sequence_number.proofs.WordLaws.{word_bytes_lem, word_append}
+use Rattle.set_words.proofs.SetWordsLaws.{length_words_bytes}
 use Rattle.number_set.proofs.SetWireLaws.{length_set_bytes}
 
 -- every word is one of 32 bits
@@ -49,7 +51,7 @@ module _ (o : ByteOrder) (ws : List ℕ) (all : Words ws) where
       (λ i. words_back front rest m n h (omega arith) i ++ (w i ∷ [])) ∙ sym (take-suc ws n 0 (omega arith))
 
 -- reading the written bytes gives the set back (base, count, the words of the count), and takes exactly the measured length
-module _ {N : Type 0} (k : Kind N) (law : Lawful k) (o : ByteOrder) (s : NumberSet N) (v : law.Valid s.base) (all : Words s.words)
+module _ {N : Type 0} (k : Kind N) (law : Lawful k) {Valid : N → Type 0} (reads : ReadsBack k Valid) (o : ByteOrder) (s : NumberSet N) (v : Valid s.base) (all : Words s.words)
     (small : s.count ≤ 256) (out : List ℕ) where
   abbrev pub back : NumberSet N
   back = record { base = s.base; count = s.count; words = take (word_count s.count) s.words ++ replicate (8 - word_count s.count) 0 }
@@ -76,7 +78,7 @@ module _ {N : Type 0} (k : Kind N) (law : Lawful k) (o : ByteOrder) (s : NumberS
   by_words = by_count ∙ sym (append_assoc (k.number_bytes o s.base) (word_bytes o s.count) (words_bytes o s.words (word_count s.count) ++ rest))
 
   base_back : k.number_at o written 0 ≡ s.base
-  base_back = ap (λ (l : List ℕ). k.number_at o l 0) by_base ∙ law.number_back o s.base (bits_bytes o s.count s.words ++ rest) v
+  base_back = ap (λ (l : List ℕ). k.number_at o l 0) by_base ∙ reads o s.base (bits_bytes o s.count s.words ++ rest) v
 
   count_back : word_at o written k.size ≡ s.count
   count_back =
@@ -98,7 +100,9 @@ module _ {N : Type 0} (k : Kind N) (law : Lawful k) (o : ByteOrder) (s : NumberS
 
   pub set_back : read_set k o (over (set_bytes k o s) out) ≡ done (record { set = back; taken = set_length k.size s.count })
   set_back =
-      let c : done s.count ≡ read_count k.size o written = count_done k.size o written s.count (sym count_back) (omega (arith, long)) small long in
+      let room = long in
+      let count = sym count_back in
+      let c : done s.count ≡ read_count k.size o written = search rules in
       ap (found (taken_set k o written)) (sym c)
       ∙ (λ i. done (record {
         set = record { base = base_back i; count = s.count; words = all_back i ++ replicate (8 - word_count s.count) 0 };

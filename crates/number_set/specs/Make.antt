@@ -1,11 +1,11 @@
 -- "Making a set from a base and a strictly rising list". Assumes nothing.
-use Rattle.std.specs.Prelude.{ℕ, ◌+◌, Bool, true, cond, ◌&&◌, List, [], ◌∷◌, length, get_or, ltb, leb, ℤ, pos}
+use Rattle.std.specs.Prelude.{ℕ, ◌+◌, Bool, true, cond, ◌&&◌, List, [], ◌∷◌, length, get_or, leb}
 use Rattle.outcome.specs.Outcome.{Outcome, refused, done}
 use Rattle.sequence_number.specs.Kind.{Kind}
-use Rattle.bitmap.specs.Bitmap.{zero_words, set_bit}
-use Rattle.number_set.specs.NumberSet.{NumberSet, sequence_struct, fragment_struct, empty_at}
-use Rattle.number_set.specs.declared.set.SequenceNumberSetMade.{SequenceNumberSetMade}
-use Rattle.number_set.specs.declared.set.FragmentNumberSetMade.{FragmentNumberSetMade}
+use Rattle.bitmap.specs.Bitmap.{zero_words}
+use Rattle.bitmap.specs.Marking.{set_bits}
+use Rattle.number_set.specs.NumberSet.{empty_at}
+use Rattle.number_set.specs.declared.set.NumberSet.{NumberSet}
 
 -- "strictly rising": each element is below the next
 abbrev pub is_rising : {N : Type 0} (k : Kind N) → List N → Bool
@@ -20,11 +20,6 @@ smaller k a b = cond (k.below b a) b a
 -- "if last - base >= 256, last becomes base + 255. Count is last - base + 1"
 abbrev pub spanned : ℕ → ℕ
 spanned away = cond (leb 256 away) 256 (away + 1)
-
--- "list members through last are set": in the words, the bit of each element whose place is below the count
-abbrev pub set_bits : {A : Type 0} → (A → ℕ) → ℕ → List ℕ → List A → List ℕ
-set_bits place count ws [] = ws
-set_bits place count ws (x ∷ xs) = set_bits place count (cond (ltb (place x) count) (set_bit ws (place x)) ws) xs
 
 -- the set from low through last
 abbrev pub set_from : {N : Type 0} (k : Kind N) → N → N → List N → NumberSet N
@@ -47,12 +42,3 @@ set_over k base (x ∷ xs) = set_above k (smaller k base x) (get_or (x ∷ xs) (
 -- "Making: 15" where the list does not rise strictly
 abbrev pub make_set : {N : Type 0} (k : Kind N) → N → List N → Outcome (NumberSet N)
 make_set k base xs = cond (is_rising k xs) (done (set_over k base xs)) (refused 15)
-
--- the answers of making: a refusal has the empty set at 0
-abbrev pub sequence_set_made : Outcome (NumberSet ℤ) → SequenceNumberSetMade
-sequence_set_made (refused n) = record { refusal = n; set = sequence_struct (empty_at (pos 0)) }
-sequence_set_made (done s) = record { refusal = 0; set = sequence_struct s }
-
-abbrev pub fragment_set_made : Outcome (NumberSet ℕ) → FragmentNumberSetMade
-fragment_set_made (refused n) = record { refusal = n; set = fragment_struct (empty_at 0) }
-fragment_set_made (done s) = record { refusal = 0; set = fragment_struct s }

@@ -1,28 +1,16 @@
 -- Reading, writing and measuring a set (RTPS 2.5, 9.4.2.6; of fragments 9.4.2.8): what each call promises. Assumes nothing.
-use Rattle.std.specs.Prelude.{ℕ, ◌+◌, ◌≡◌, cond, List, ◌++◌, length, ltb, ℤ, pos}
+use Rattle.std.specs.Prelude.{ℕ, ◌+◌, ◌≡◌, cond, List, ◌++◌, length, ltb, Result}
 use Rattle.outcome.specs.Outcome.{Outcome, refused, done, found, left}
+use Rattle.outcome.specs.Refusal.{said}
+use Rattle.outcome.specs.declared.Refusal.{Refusal}
 use Rattle.sequence_number.specs.Kind.{Kind}
-use Rattle.sequence_number.specs.NumberWire.{written_said}
 use Rattle.set_words.specs.SetWords.{word_count, set_length, read_count, read_words, bits_bytes}
 pub use Rattle.set_words.specs.SetWords.{write_set}
-use Rattle.number_set.specs.NumberSet.{NumberSet, sequence_struct, fragment_struct, empty_at}
 use Rattle.sequence_number.specs.declared.ByteOrder.{ByteOrder}
-use Rattle.sequence_number.specs.declared.wire.Written.{Written}
-use Rattle.number_set.specs.declared.set.SequenceNumberSetRead.{SequenceNumberSetRead}
-use Rattle.number_set.specs.declared.set.FragmentNumberSetRead.{FragmentNumberSetRead}
-use Rattle.number_set.specs.declared.set.Measured.{Measured}
-use Rattle.number_set.specs.declared.set.Measured.TheVariants.{Refused, Bytes}
-
--- the paper's number and value for the answer of measuring
-abbrev pub measured_said : Measured → Outcome ℕ
-measured_said (Refused n) = refused n
-measured_said (Bytes n) = done n
+use Rattle.number_set.specs.declared.set.NumberSet.{NumberSet}
+use Rattle.number_set.specs.declared.set.Taken.{Taken}
 
 -- a set that was read, and "how many were taken"
-pub record Taken (N : Type 0) : Type 0 where
-  pub set : NumberSet N
-  pub taken : ℕ
-
 abbrev pub taken_set : {N : Type 0} (k : Kind N) → ByteOrder → List ℕ → ℕ → Taken N
 taken_set k o s count =
     record {
@@ -34,22 +22,13 @@ taken_set k o s count =
 abbrev pub read_set : {N : Type 0} (k : Kind N) → ByteOrder → List ℕ → Outcome (Taken N)
 read_set k o s = found (taken_set k o s) (read_count k.size o s)
 
--- the answers of reading: a refusal has the empty set at 0, and takes nothing
-abbrev pub sequence_set_read : Outcome (Taken ℤ) → SequenceNumberSetRead
-sequence_set_read (refused n) = record { refusal = n; taken = 0; set = sequence_struct (empty_at (pos 0)) }
-sequence_set_read (done t) = record { refusal = 0; taken = t.taken; set = sequence_struct t.set }
-
-abbrev pub fragment_set_read : Outcome (Taken ℕ) → FragmentNumberSetRead
-fragment_set_read (refused n) = record { refusal = n; taken = 0; set = fragment_struct (empty_at 0) }
-fragment_set_read (done t) = record { refusal = 0; taken = t.taken; set = fragment_struct t.set }
-
 -- "A set is base, bit count (u32), then ceil(count / 32) words"; unused bits of the last word are written as they are
 abbrev pub set_bytes : {N : Type 0} (k : Kind N) → ByteOrder → NumberSet N → List ℕ
 set_bytes k o s = k.number_bytes o s.base ++ bits_bytes o s.count s.words
 
 -- what writing a set to the lent bytes promises: the answer, and each byte
-pub record WritesSet {N : Type 0} (k : Kind N) (o : ByteOrder) (s : NumberSet N) (before : List ℕ) (r : Written) (after : List ℕ) : Type 0 where
-  pub answer : written_said r ≡ write_set k.size s.count (length before)
+pub record WritesSet {N : Type 0} (k : Kind N) (o : ByteOrder) (s : NumberSet N) (before : List ℕ) (r : Result ℕ Refusal) (after : List ℕ) : Type 0 where
+  pub answer : said r ≡ write_set k.size s.count (length before)
   pub bytes : after ≡ left (write_set k.size s.count (length before)) (set_bytes k o s) before
 
 -- "measured: 2", with a base of so many bytes

@@ -1,16 +1,12 @@
 -- Walking a set: "Members are listed rising or falling". Assumes nothing.
-use Rattle.std.specs.Prelude.{ℕ, ◌≡◌, Bool, cond, List, reverse, length, ltb}
+use Rattle.std.specs.Prelude.{ℕ, ◌≡◌, Bool, cond, List, reverse, length, ltb, Result}
 use Rattle.outcome.specs.Outcome.{Outcome, refused, done, left}
+use Rattle.outcome.specs.Refusal.{said}
+use Rattle.outcome.specs.declared.Refusal.{Refusal}
 use Rattle.sequence_number.specs.Kind.{Kind}
 use Rattle.bitmap.specs.Bitmap.{positions, any_past}
-use Rattle.number_set.specs.NumberSet.{NumberSet, members}
-use Rattle.number_set.specs.declared.set.Walked.{Walked}
-use Rattle.number_set.specs.declared.set.Walked.TheVariants.{Refused, Listed}
-
--- the paper's number and values for the answer of a walk
-abbrev pub walked_said : Walked → Outcome ℕ
-walked_said (Refused n) = refused n
-walked_said (Listed n) = done n
+use Rattle.number_set.specs.NumberSet.{members}
+use Rattle.number_set.specs.declared.set.NumberSet.{NumberSet}
 
 -- "A set walked: 2, 4, 3", else how many members there are
 abbrev pub walk_set : {N : Type 0} (k : Kind N) → NumberSet N → ℕ → Outcome ℕ
@@ -25,6 +21,6 @@ abbrev pub in_order : {A : Type 0} → Bool → List A → List A
 in_order up l = cond up l (reverse l)
 
 -- what a walk to the lent list promises: the answer, and each entry
-pub record Walks {N : Type 0} (k : Kind N) (s : NumberSet N) (up : Bool) (before : List N) (r : Walked) (after : List N) : Type 0 where
-  pub answer : walked_said r ≡ walk_set k s (length before)
+pub record Walks {N : Type 0} (k : Kind N) (s : NumberSet N) (up : Bool) (before : List N) (r : Result ℕ Refusal) (after : List N) : Type 0 where
+  pub answer : said r ≡ walk_set k s (length before)
   pub entries : after ≡ left (walk_set k s (length before)) (in_order up (members k s)) before

@@ -1,19 +1,15 @@
 -- Laws of `specs/SetWords.antt`: each turn and each answer of the code. Assumes nothing.
 use Prim.Native.Nat.{ℕ, zero, suc, ◌+◌, ◌*◌, ◌≤◌}
 use mathlib.Core.Path.{◌≡◌, refl, ap, ◌∙◌, sym}
-use mathlib.Core.List.{List, [], ◌∷◌, ◌++◌}
+use mathlib.Core.List.{List, [], ◌∷◌, ◌++◌, append-nil}
 use native.Mathlib.Omega.{arith}
 use native.Mathlib.Numerals.{add-one}
-use lib.ListN.{length, length-append, get_or, drop, set}
+use lib.ListN.{length, length-append, length-take, get_or, take, drop, set}
+use Rattle.std.proofs.lemmas.List.{drop_all}
 use lib.Seq.{sets}
-use Rattle.std.specs.Prelude.{Result, Ok}
-use borrow.Author.Rules.{rules}
-use Rattle.outcome.specs.Outcome.{done}
-use Rattle.outcome.specs.Refusal.{said}
-use Rattle.outcome.specs.declared.Refusal.{Refusal}
 use Rattle.sequence_number.specs.Word.{word_at, word_bytes}
 use Rattle.bitmap.specs.Bitmap.{zero_words}
-use Rattle.set_words.specs.SetWords.{word_count, set_length, read_count, words_from, read_words, words_bytes, bits_bytes, write_set}
+use Rattle.set_words.specs.SetWords.{word_count, words_from, read_words, words_bytes, bits_bytes}
 use Rattle.sequence_number.specs.declared.ByteOrder.{ByteOrder}
 use Rattle.outcome.proofs.LentLaws.{sets_sets, set_sets, sets_over, drop_replicate}
 use Rattle.sequence_number.specs.Keeps.{length_bytes}
@@ -34,26 +30,14 @@ words_more o s at i l₀ l v p e =
     ∙ set_sets l l₀ (words_from o s at i) i (word_at o s (at + 4 * i)) (sym (length_words o s at i)) p
     ∙ ap (λ (k : ℕ). sets l₀ 0 (words_from o s at k)) (sym (add-one i))
 
--- the words that were read, over zeros
-pub words_read : (o : ByteOrder) (s : List ℕ) (at n : ℕ) (l : List ℕ) → n ≤ 8 → l ≡ sets zero_words 0 (words_from o s at n) → l ≡ read_words o s at n
+-- the words that were read, and the zeros past them
+pub words_read : (o : ByteOrder) (s : List ℕ) (at n : ℕ) (l : List ℕ) → n ≤ 8 → l ≡ sets (take n zero_words) 0 (words_from o s at n) → l ++ drop n zero_words ≡ read_words o s at n
 words_read o s at n l h e =
     let k = length_words o s at n in
-    e ∙ sets_over (words_from o s at n) zero_words (omega arith)
-    ∙ ap (λ (i : ℕ). words_from o s at n ++ drop i zero_words) k
-    ∙ ap (λ (z : List ℕ). words_from o s at n ++ z) (drop_replicate n 8 0)
-
--- the count, by the tests that the code makes
-module _ (size : ℕ) (o : ByteOrder) (s : List ℕ) where
-  pub count_done : (n : ℕ) → n ≡ word_at o s size → size + 4 ≤ length s → n ≤ 256 → set_length size n ≤ length s → done n ≡ read_count size o s
-  count_done n e h p q = search rules
-
-  -- a count that is found is at most 256, and its words are there
-  pub count_there : (n : ℕ) → done n ≡ read_count size o s → (n ≤ 256) × (set_length size n ≤ length s)
-  count_there n e = search rules
-
-  -- the same of what the code's leaf answers
-  pub bits_there : (c : Result ℕ Refusal) (n : ℕ) → said c ≡ read_count size o s → c ≡ Ok n → (n ≤ 256) × (set_length size n ≤ length s)
-  bits_there c n e p = count_there n (sym (ap said p) ∙ e)
+    let m = length-take n zero_words in
+    let over = sets_over (words_from o s at n) (take n zero_words) (omega arith) in
+    let none : drop (length (words_from o s at n)) (take n zero_words) ≡ [] = drop_all _ (take n zero_words) (omega arith) in
+    (λ i. (e ∙ over ∙ ap (λ (z : List ℕ). words_from o s at n ++ z) none ∙ append-nil (words_from o s at n)) i ++ drop_replicate n 8 0 i)
 
 -- ---- writing
 
@@ -71,18 +55,8 @@ bytes_more o ws at i l l' l'' p q =
     sets_sets l l' l'' (words_bytes o ws i) (word_bytes o (get_or ws i 0)) at (at + 4 * i) (ap (λ (k : ℕ). at + k) (sym (length_words_bytes o ws i))) p q
     ∙ ap (λ (k : ℕ). sets l at (words_bytes o ws k)) (sym (add-one i))
 
--- the count, and then its words
-pub bits_written : (o : ByteOrder) (count : ℕ) (ws l l' l'' : List ℕ) (at : ℕ) → l' ≡ sets l at (word_bytes o count)
-    → l'' ≡ sets l' (at + 4) (words_bytes o ws (word_count count)) → l'' ≡ sets l at (bits_bytes o count ws)
-bits_written o count ws l l' l'' at p q =
-    sets_sets l l' l'' (word_bytes o count) (words_bytes o ws (word_count count)) at (at + 4) (ap (λ (k : ℕ). at + k) (sym (length_bytes o count))) p q
-
 pub length_bits : (o : ByteOrder) (count : ℕ) (ws : List ℕ) → length (bits_bytes o count ws) ≡ 4 + 4 * word_count count
 length_bits o count ws =
     let c = length_bytes o count in
     let d = length_words_bytes o ws (word_count count) in
     omega (arith, length-append (word_bytes o count) (words_bytes o ws (word_count count)))
-
--- what is written was allowed
-pub wrote_means : (size count room : ℕ) {w : Result ℕ Refusal} (n : ℕ) → w ≡ Ok n → said w ≡ write_set size count room → (count ≤ 256) × (set_length size count ≤ room)
-wrote_means size count room {w} n q p = search rules

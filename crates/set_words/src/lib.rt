@@ -51,8 +51,8 @@ pub fn read_words(o: ByteOrder, s: &[u8], at: usize, n: usize) -> [u32; 8]
     ensures { result ≡ read_words o s.now at n }
 {
     let mut words = [0u32; 8];
-    for i in 0..n {
-        words[i] = read_word(o, s, at + 4 * i);
+    for (i, word) in words[..n].iter_mut().enumerate() {
+        *word = read_word(o, s, at + 4 * i);
     }
     words
 }
@@ -63,8 +63,8 @@ fn write_words(o: ByteOrder, words: [u32; 8], n: usize, out: &mut [u8], at: usiz
     requires n_in_bounds { at + 4 * n ≤ length out.old }
     ensures { out.new ≡ sets out.old at (words_bytes o words n) }
 {
-    for i in 0..n {
-        write_word(o, words[i], out, at + 4 * i);
+    for (i, word) in words[..n].iter().enumerate() {
+        write_word(o, *word, out, at + 4 * i);
     }
 }
 

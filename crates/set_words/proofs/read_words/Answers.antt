@@ -1,7 +1,12 @@
 use Rattle.set_words.proofs.SetWordsLaws.{words_more, words_read}
-use Rattle.set_words.specs.SetWords.{read_words}
+use Rattle.set_words.specs.SetWords.{words_from}
 use native.Mathlib.Omega.{arith}
 use mathlib.Core.Path.{◌≡◌, ap, ◌∙◌}
+use lib.ListN.{take}
+use borrow.Author.Rules.{rules}
+use lib.Seq.{sets}
+use Prim.Native.Nat.{ℕ}
+use Rattle.bitmap.specs.Bitmap.{zero_words}
 use Rattle.set_words.proofs.read_words.Goals as goal
 
 pub loop-i-preserved : goal.loop-i-preserved
@@ -12,5 +17,6 @@ loop-i-preserved c =
 pub returns : goal.returns
 returns c =
     let a = c.args in
-    let e : c.loop-i.i ≡ a.n = omega arith in
-    words_read a.o a.s.now a.at c.loop-i.i _ (omega arith) c.loop-i.invariant ∙ ap (read_words a.o a.s.now a.at) e
+    let e : c.loop-i.i ≡ a.n = search rules in
+    words_read a.o a.s.now a.at a.n _ (omega arith)
+    (c.loop-i.invariant ∙ ap (λ (k : ℕ). sets (take a.n zero_words) 0 (words_from a.o a.s.now a.at k)) e)

@@ -6,4 +6,4 @@ use mathlib.Core.Path.{◌≡◌}
 use Rattle.set_words.proofs.write_words.Given as goal
 
 abbrev pub invariant-loop-i : goal.invariant-loop-i
-invariant-loop-i l = l.out ≡ sets l.initial.out l.at (words_bytes l.o l.words l.i)
+invariant-loop-i l = l.out ≡ sets l.initial.out l.at (words_bytes l.o l.fn.words l.i)
