@@ -79,8 +79,8 @@ def signature(head):
 
 
 def functions_of(crate, file, text):
-    found, owner, owner_end = [], None, -1
-    skip = re.compile(r"//[^\n]*|\bimpl\s+(\w+)\s*\{|\bfn\s+(\w+)")
+    found, owner, owner_end, head = [], None, -1, None
+    skip = re.compile(r"//[^\n]*|\bimpl(?:<[^{;]*?>)?\s+(\w+)(?:<[^{;]*?>)?\s*\{|\bfn\s+(\w+)")
     at = 0
     while True:
         m = skip.search(text, at)
@@ -88,7 +88,7 @@ def functions_of(crate, file, text):
             return found
         at = m.end()
         if m.group(1):
-            owner, owner_end = m.group(1), closing(text, m.end() - 1)
+            owner, owner_end, head = m.group(1), closing(text, m.end() - 1), m.group()[:-1].rstrip()
         elif m.group(2):
             # contracts stand between the signature and the body
             i = m.end()
@@ -107,7 +107,9 @@ def functions_of(crate, file, text):
                         break
                 i += 1
             end = closing(text, i) + 1
-            found.append(Function(crate, file, m.group(2), owner if m.start() < owner_end else None, text, m.start(), i, end))
+            inside = m.start() < owner_end
+            found.append(Function(crate, file, m.group(2), owner if inside else None, text, m.start(), i, end))
+            found[-1].head = head if inside else None  # `impl<N: Number> NumberSet<N>`
             at = end
 
 

@@ -77,7 +77,7 @@ class Sweep:
                 twin.label = f.label + TWIN + slot.split("#")[1]
                 became = f.text if c is None else f.text[: c.at] + c.new + f.text[c.at + len(c.old) :]
                 whole = f.before + re.sub(r"^fn %s\b" % f.name, "fn " + twin.name, became)
-                whole = "\nimpl %s {\n%s\n}\n" % (f.owner, whole) if f.owner else "\n" + whole + "\n"
+                whole = "\n%s {\n%s\n}\n" % (f.head, whole) if f.owner else "\n" + whole + "\n"
                 twin.line = files[f.file].count("\n") + 1
                 files[f.file] += whole
                 twin.last = files[f.file].count("\n") + 1
