@@ -51,19 +51,6 @@ halves hi lo h l =
     ∙ ap (λ (z : ℤ). z *ℤ pos (2 ^ 32) +ℤ pos lo) (sym (ap (to_z w32) f ∙ to_z-neg w32 k (omega arith))))
     (split_lt hi (2 ^ 31))
 
--- what reading a sequence number comes to: the two words, and the number of their bits
-pub sequence_read : (o : ByteOrder) (s : List ℕ) (at hi lo : ℕ) (r : ℤ) → SFits w64 r → hi < 2 ^ 32 → lo < 2 ^ 32 → hi ≡ word_at o s at
-    → lo ≡ word_at o s (at + 4) → r ≡ to_z w64 (hi * 4294967296 + lo) → to_z w64 (of_z w64 r) ≡ sequence_at o s at
-sequence_read o s at hi lo r f h l p q e = to_z-of_z {w = w64} {z = r} f ∙ e ∙ halves hi lo h l ∙ (λ i. to_z w32 (p i) *ℤ pos (2 ^ 32) +ℤ pos (q i))
-
--- what writing one comes to: its high word, and then its low word
-pub sequence_written : (o : ByteOrder) (l l' l'' : List ℕ) (at u : ℕ) (n : ℤ) → u ≡ of_z w64 n → l' ≡ sets l at (word_bytes o (u / 4294967296))
-    → l'' ≡ sets l' (at + 4) (word_bytes o (u % 4294967296)) → l'' ≡ sets l at (sequence_bytes o n)
-sequence_written o l l' l'' at u n p q r =
-    sets_sets l l' l'' (word_bytes o (u / 4294967296)) (word_bytes o (u % 4294967296)) at (at + 4)
-    (ap (λ (k : ℕ). at + k) (sym (length_bytes o (u / 4294967296)))) q r
-    ∙ ap (λ (v : ℕ). sets l at (word_bytes o (v / 4294967296) ++ word_bytes o (v % 4294967296))) p
-
 -- a sequence number that was written is read back
 pub sequence_back : ReadsBack sequence_number (SFits w64)
 sequence_back o n rest f =

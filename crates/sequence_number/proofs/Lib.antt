@@ -2,6 +2,5 @@ pub mod NumberLaws
 pub mod SignedLaws
 pub mod WordLaws
 pub mod KindLaws
-pub mod FitLaws
 pub mod NumberWireLaws
 pub mod Determined

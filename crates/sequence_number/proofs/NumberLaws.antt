@@ -15,22 +15,6 @@ use Rattle.std.specs.Prelude.{Option, Some, None, unwrap_or, option_map}
 use Rattle.sequence_number.specs.Number.{top, is_number, nat_of, number_of, taken}
 use Rattle.outcome.proofs.Split.{split, split_lt, clash}
 
-pub number_low : (n : ℤ) → lt_z n (pos 1) ≡ true → 0 ≡ number_of n
-number_low (pos n) h = rw (le-ltb 0 n (omega (arith, ltb-true n 1 h)))
-number_low (negsuc n) h = refl
-
-pub number_last : (n : ℤ) → of_z w64 n ≡ top → lt_z n (pos 1) ≡ false → 0 ≡ number_of n
-number_last (pos n) e h = rw (lt-ltb 0 n (omega (arith, ltb-false n 1 h)), le-ltb n top (omega arith))
-number_last (negsuc n) e h = refl
-
-pub number_good : (n : ℤ) → SFits w64 n → (of_z w64 n ≡ top → ⊥) → lt_z n (pos 1) ≡ false
-    → (nat_abs n ≡ number_of n) × T (non_neg n) × Fits w64 (nat_abs n)
-number_good (pos n) f e h =
-    let a : 0 < n = omega (arith, ltb-false n 1 h) in
-    let b : n < top = omega (arith, f.sfits) in
-    (rw (lt-ltb 0 n a, lt-ltb n top b), tt, record { fits = omega arith })
-number_good (negsuc n) f e h = let z : ◌≡◌ {A = ℕ} 0 1 = cc in omega arith
-
 -- what the number that was taken says of the one that was passed
 pub number_is : (n : ℤ) (k : ℕ) → k ≡ number_of n
     → ((k ≡ 0) × (is_number n ≡ false)) ⊎ ((0 < k) × (k < top) × (is_number n ≡ true) × (k ≡ nat_of n))
@@ -67,14 +51,6 @@ none_taken n e = split (is_number n) (λ h. absurd (some_none (rw h at e))) (λ 
   where
     some_none : ◌≡◌ {A = Option ℕ} None (Some (nat_of n)) → ⊥
     some_none z = let one : ◌≡◌ {A = ℕ} 0 1 = ap (λ (o : Option ℕ). unwrap_or (option_map (λ x. 1) o) 0) z in omega arith
-
-pub nat_neg : (n : ℤ) → lt_z n (pos 0) ≡ true → 0 ≡ nat_of n
-nat_neg (pos n) h = omega (arith, ltb-true n 0 h)
-nat_neg (negsuc n) h = refl
-
-pub nat_good : (n : ℤ) → SFits w64 n → lt_z n (pos 0) ≡ false → (nat_abs n ≡ nat_of n) × T (non_neg n) × Fits w64 (nat_abs n)
-nat_good (pos n) f h = (refl, tt, record { fits = omega (arith, f.sfits) })
-nat_good (negsuc n) f h = let z : ◌≡◌ {A = ℕ} 0 1 = cc in absurd (omega arith)
 
 pub nat_top : (n : ℤ) → SFits w64 n → nat_of n ≤ top
 nat_top (pos n) f = omega (arith, f.sfits)

@@ -1,33 +1,21 @@
--- Laws of `specs/NumberWire.antt`, over the kind of number: each answer of the calls, and that what was written is read back.
--- Assumes nothing.
-use Prim.Native.Nat.{ℕ, ◌<◌, ◌≤◌}
+-- Laws of `specs/NumberWire.antt`, over the kind of number: what writing comes to, and that what was written is read back. Assumes nothing.
+use Prim.Native.Nat.{ℕ, ◌≤◌}
 use mathlib.Core.Path.{◌≡◌, ap, ◌∙◌}
 use mathlib.Core.List.{List}
 use native.Mathlib.Omega.{arith}
 use lib.ListN.{length, drop, length-append}
 use lib.Seq.{sets}
-use borrow.Author.Tests.{lt-ltb, le-ltb}
-use Rattle.outcome.specs.Outcome.{refused, done}
+use borrow.Author.Tests.{le-ltb}
+use Rattle.outcome.specs.Outcome.{done}
 use Rattle.outcome.specs.Lent.{over}
 use Rattle.sequence_number.specs.Kind.{Kind}
 use Rattle.sequence_number.specs.NumberWire.{read_number, Writes}
 use Rattle.sequence_number.specs.declared.ByteOrder.{ByteOrder}
-use Rattle.std.specs.Prelude.{Ok, Err}
-use Rattle.outcome.specs.declared.Refusal.TheVariants.{EndsEarly, ShortOutput}
+use Rattle.std.specs.Prelude.{Ok}
 use Rattle.outcome.proofs.LentLaws.{sets_over}
 use Rattle.sequence_number.specs.Lawful.{Lawful, ReadsBack}
 
-module _ {N : Type 0} (k : Kind N) (o : ByteOrder) (s : List ℕ) where
-  pub read_short : length s < k.size → refused 1 ≡ read_number k o s
-  read_short h = rw (lt-ltb (length s) k.size h)
-
-  pub read_done : k.size ≤ length s → (n : N) → n ≡ k.number_at o s 0 → done n ≡ read_number k o s
-  read_done h n e = rw (le-ltb (length s) k.size h) (ap done e)
-
 module _ {N : Type 0} (k : Kind N) (law : Lawful k) (o : ByteOrder) (n : N) (before : List ℕ) where
-  pub write_short : length before < k.size → Writes k o n before (Err ShortOutput) before
-  write_short h = record { answer = rw (lt-ltb (length before) k.size h); bytes = rw (lt-ltb (length before) k.size h) }
-
   pub write_done : (after : List ℕ) → k.size ≤ length before → after ≡ sets before 0 (k.number_bytes o n)
       → Writes k o n before (Ok k.size) after
   write_done after h e =
