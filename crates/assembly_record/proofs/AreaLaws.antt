@@ -2,9 +2,9 @@
 use Prim.Native.Nat.{ℕ, ◌+◌, ◌-◌, ◌≤◌, ◌<◌}
 use native.Mathlib.Omega.{arith}
 use mathlib.Core.Path.{◌≡◌, sym, ap, ◌∙◌}
-use mathlib.Core.List.{List, ◌++◌, append_assoc}
-use lib.ListN.{length, get_or, take, drop, replicate, length-take, length-drop, length-replicate, get_or-append}
-use lib.Seq.{paste, take_all, length_paste_head, length-take-le, get_or-take, get_or-drop, get_or-append-add, drop-drop}
+use mathlib.Core.List.{List, ◌++◌}
+use lib.ListN.{length, get_or, take, drop, get_or-append}
+use lib.Seq.{paste, length_paste_head, length-take-le, get_or-take, get_or-drop, get_or-append-add}
 
 module _ (d : List ℕ) (i : ℕ) (s : List ℕ) (n : ℕ) (hd : i + n ≤ length d) (hs : n ≤ length s) where
   private_head : length (take i d ++ take n s) ≡ i + n
@@ -32,28 +32,3 @@ module _ (d : List ℕ) (i : ℕ) (s : List ℕ) (n : ℕ) (hd : i + n ≤ lengt
     where
       e : j ≡ length (take i d ++ take n s) + (j - (i + n))
       e = omega (arith, private_head)
-
--- a part that was lent and came back as the first n of s
-pub put_paste : (d : List ℕ) (i n : ℕ) (ys s : List ℕ) → ys ≡ take n s → take i d ++ (ys ++ drop ((i + n) - i) (drop i d)) ≡ paste d i s n
-put_paste d i n ys s e =
-    ap (λ (k : ℕ). take i d ++ (ys ++ drop k (drop i d))) back
-    ∙ ap (λ (l : List ℕ). take i d ++ (ys ++ l)) (drop-drop n i d)
-    ∙ ap (λ (l : List ℕ). take i d ++ (l ++ drop (i + n) d)) e
-    ∙ sym (append_assoc (take i d) (take n s) (drop (i + n) d))
-  where
-    back : (i + n) - i ≡ n
-    back = omega arith
-
--- the same, as the leaves say it: they fill the part, and the part has n elements
-part_length : (d : List ℕ) (i n : ℕ) → i + n ≤ length d → length (take ((i + n) - i) (drop i d)) ≡ n
-part_length d i n h = omega (arith, length-take ((i + n) - i) (drop i d), length-drop i d)
-
-pub put_zero : (d : List ℕ) (i n : ℕ) (ys : List ℕ) → i + n ≤ length d → ys ≡ replicate (length (take ((i + n) - i) (drop i d))) 0
-    → take i d ++ (ys ++ drop ((i + n) - i) (drop i d)) ≡ paste d i (replicate n 0) n
-put_zero d i n ys h e =
-    put_paste d i n ys (replicate n 0)
-    (e ∙ ap (λ (k : ℕ). replicate k 0) (part_length d i n h) ∙ sym (take_all n (replicate n 0) (omega (arith, length-replicate {A = ℕ} n 0))))
-
-pub put_copy : (d : List ℕ) (i n : ℕ) (ys s : List ℕ) → i + n ≤ length d → ys ≡ take (length (take ((i + n) - i) (drop i d))) s
-    → take i d ++ (ys ++ drop ((i + n) - i) (drop i d)) ≡ paste d i s n
-put_copy d i n ys s h e = put_paste d i n ys s (e ∙ ap (λ (k : ℕ). take k s) (part_length d i n h))

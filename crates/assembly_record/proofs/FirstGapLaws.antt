@@ -6,21 +6,22 @@ use native.Mathlib.Nat.{mod-lt, zero-div}
 use mathlib.Core.Path.{◌≡◌, sym, ap, subst, ◌∙◌}
 use mathlib.Core.Bool.{true, false}
 use mathlib.Core.Logic.{⊎_elim}
-use mathlib.Core.List.{List}
-use lib.ListN.{get_or, take, drop}
+use mathlib.Core.List.{List, [], map}
+use lib.ListN.{length, get_or, take, drop, length-drop}
+use lib.Seq.{take_all}
 use lib.Count.{count_trailing_zeros}
 use lib.Dec.{leb, eqb}
 use borrow.Author.Tests.{eq-eqb, ne_eqb, le-leb, lt-leb}
-use Rattle.assembly_record.specs.Sizes.{most_fragments, row_size}
+use Rattle.assembly_record.specs.Sizes.{place_count, most_fragments, row_size}
 use Rattle.outcome.proofs.Split.{split_lt}
 use Rattle.bitmap.proofs.WidthLaws.{complement_bit, trailing_below, trailing_at}
 use Rattle.assembly_record.proofs.FragmentsLaws.{fragments_le, fragments_above}
 use Rattle.assembly_record.proofs.MarksLaws.{all_holds, all_lacks}
-use Rattle.assembly_record.proofs.WordsLaws.{marks_at, size_at}
+use Rattle.assembly_record.proofs.WordsLaws.{row_place, row_marks}
 use Rattle.assembly_record.specs.Fragments.{fragments, is_whole}
 use Rattle.assembly_record.specs.Marks.{marked, all_below}
-use Rattle.assembly_record.specs.State.{place_at}
-use Rattle.assembly_record.specs.Words.{places_of}
+use Rattle.assembly_record.specs.State.{Place, place_at}
+use Rattle.assembly_record.specs.Words.{place_of, places_of}
 use Rattle.assembly_record.specs.Rows.{FirstGap, Counts}
 
 -- c is the complement of word i
@@ -59,10 +60,6 @@ module _ (m : List ℕ) (i c : ℕ) (e : c + get_or m i 0 ≡ 2 ^ 64 - 1) (befor
         gap = λ l. not_where (64 * i + z) (omega (arith, t.0)) (ap (λ (n : ℕ). c / 2 ^ n % 2) p ∙ t.1);
       }
 
--- all 256 are set
-pub gap_none : (m : List ℕ) (i : ℕ) → i ≡ 4 → ((j : ℕ) → j < 64 * i → marked m j ≡ true) → FirstGap m (64 * i)
-gap_none m i e h = record { most = omega arith; before = h; gap = λ l. absurd (omega arith) }
-
 -- as many as r cover the sample, or the one at r lacks
 pub whole_reached : (m : List ℕ) (d f r : ℕ) → 0 < f → fragments d f ≤ most_fragments → FirstGap m r → leb d (r * f) ≡ all_below (marked m) (fragments d f)
 whole_reached m d f r p few g =
@@ -75,11 +72,12 @@ whole_reached m d f r p few g =
     le-leb d (r * f) l ∙ sym (all_holds (marked m) (fragments d f) (λ j h. g.before j (omega arith))))
     (split_lt (r * f) d)
 
--- the same of a place, as the code reads it
-pub whole_counted : (w : List ℕ) (i r : ℕ) → Counts w i → FirstGap (take ((3 + row_size * i + 3 + 4) - (3 + row_size * i + 3)) (drop (3 + row_size * i + 3) w)) r
-    → leb (get_or w (3 + row_size * i + 1) 0) (r * get_or w 0 0) ≡ is_whole (get_or w 0 0) (place_at (places_of w) i)
-whole_counted w i r c g =
-    let e = size_at w i c.within in
-    let m = marks_at w i c.within in
-    ap (λ (d : ℕ). leb d (r * get_or w 0 0)) e
+-- the same of a place, whose row the code reads
+pub whole_counted : (w : List ℕ) (i : ℕ) (rs : List (List ℕ)) (r : ℕ) → Counts w i → map place_of rs ≡ places_of w → length rs ≡ place_count → length (get_or rs i []) ≡ row_size
+    → FirstGap (take 4 (drop 3 (get_or rs i []))) r
+    → leb (get_or (get_or rs i []) 1 0) (r * get_or w 0 0) ≡ is_whole (get_or w 0 0) (place_at (places_of w) i)
+whole_counted w i rs r c e n l g =
+    let p : place_of (get_or rs i []) ≡ place_at (places_of w) i = row_place rs (places_of w) i [] e (omega (arith, c.within)) in
+    let m = row_marks rs (places_of w) i [] e (omega (arith, c.within)) l in
+    ap (λ (q : Place). leb q.size (r * get_or w 0 0)) p
     ∙ whole_reached (place_at (places_of w) i).marks (place_at (places_of w) i).size (get_or w 0 0) r c.some c.few (subst (λ (l : List ℕ). FirstGap l r) m g)

@@ -2,15 +2,17 @@
 use Prim.Native.Nat.{ℕ, zero, suc, ◌+◌, ◌-◌, ◌≤◌, ◌<◌}
 use native.Mathlib.Omega.{arith}
 use native.Mathlib.Nat.{not-suc-le-zero}
+use native.Mathlib.Numerals.{add-one}
 use mathlib.Core.Path.{◌≡◌, sym, ap, subst, ◌∙◌}
 use mathlib.Core.Bool.{true, false, cond}
 use mathlib.Core.Logic.{⊎_elim}
 use mathlib.Core.List.Memᴰ
 use mathlib.Core.List.{List, [], ◌∷◌, ◌++◌, append-nil, Memᴰ}
-use lib.ListN.{length, get_or, set, drop, length-append, get_or-append}
+use lib.ListN.{length, get_or, set, length-append, get_or-append}
 use lib.Seq.{get_or-append_seam}
 use lib.Dec.{leb}
 use borrow.Author.Tests.{leb-true, leb-false}
+use Rattle.outcome.specs.Lent.{over}
 use Rattle.outcome.proofs.LentLaws.{over_more}
 use Rattle.outcome.proofs.Split.{split, split_lt}
 use Rattle.assembly_record.specs.Marks.{marked, gaps}
@@ -28,12 +30,13 @@ gaps_mono m i (suc n) h =
     (λ t. let ih = gaps_mono m i n (leb-true i n t) in omega (arith, ih, length-append (gaps m n) (cond (marked m n) [] (suc n ∷ []))))
     (λ t. let e : i ≡ suc n = (let l = leb-false i n t in omega arith) in rw e (omega arith))
 
-pub gaps_more : (m : List ℕ) (n : ℕ) (d out : List ℕ) (k : ℕ) → out ≡ gaps m n ++ drop (length (gaps m n)) d → k ≡ length (gaps m n) → marked m n ≡ false
-    → k < length d → (set out k (suc n) ≡ gaps m (suc n) ++ drop (length (gaps m (suc n))) d) × (k + 1 ≡ length (gaps m (suc n)))
-gaps_more m n d out k e ek g l =
-    rw (gaps_gap m n g) (
-      ap (λ (o : List ℕ). set o k (suc n)) e ∙ over_more (gaps m n) d k (suc n) (sym ek) l,
+-- a gap listed behind those before it
+pub gaps_more : (m : List ℕ) (n : ℕ) (d out : List ℕ) (k : ℕ) → k ≡ length (gaps m n) → out ≡ over (gaps m n) d → marked m n ≡ false → k < length d
+    → (k + 1 ≡ length (gaps m (n + 1))) × (set out k (n + 1) ≡ over (gaps m (n + 1)) d)
+gaps_more m n d out k ek e g l =
+    rw (add-one n, gaps_gap m n g) (
       omega (arith, length-append (gaps m n) (suc n ∷ [])),
+      ap (λ (o : List ℕ). set o k (suc n)) e ∙ over_more (gaps m n) d k (suc n) (sym ek) l,
     )
 
 pub gaps_in : (m : List ℕ) (f k : ℕ) → Memᴰ k (gaps m f) → (0 < k) × (k ≤ f) × (marked m (k - 1) ≡ false)

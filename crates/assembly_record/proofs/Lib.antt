@@ -1,7 +1,6 @@
 pub mod TableLaws
 pub mod MarksLaws
 pub mod GapsLaws
-pub mod FillLaws
 pub mod AreaLaws
 pub mod WordsLaws
 pub mod RowLaws

@@ -1,8 +1,7 @@
 -- Laws of `specs/Marks.antt`. Assumes nothing.
-use Prim.Native.Nat.{ℕ, zero, suc, ◌+◌, ◌*◌, ◌/◌, ◌%◌, ◌^◌, ◌≤◌, ◌<◌}
+use Prim.Native.Nat.{ℕ, zero, suc, ◌+◌, ◌-◌, ◌*◌, ◌/◌, ◌%◌, ◌^◌, ◌≤◌, ◌<◌}
 use native.Mathlib.Omega.{arith}
 use native.Mathlib.Nat.{not-suc-le-zero, le_of_suc-le-suc, eq-or-lt_of_le, mod-lt, zero-div}
-use native.Mathlib.Numerals.{add-one}
 use mathlib.Core.Path.{◌≡◌, refl, sym, ap, subst, ◌∙◌}
 use mathlib.Core.Bool.{Bool, true, false, ◌||◌, or-false, or_assoc}
 use mathlib.Core.Logic.{⊎_elim}
@@ -29,10 +28,13 @@ mark_or m j =
     let e : (1 * 2 ^ (j % 64)) % 18446744073709551616 ≡ 2 ^ (j % 64) = one_within (j % 64) 64 (mod-lt j (omega arith)) in
     ap (λ (x : ℕ). set m (j / 64) (bit_or (get_or m (j / 64) 0) x)) e ∙ ap (set m (j / 64)) (or_sets (get_or m (j / 64) 0) (j % 64))
 
--- a mark more of a run
-pub run_more : (m₀ m : List ℕ) (k i : ℕ) → m ≡ mark_run m₀ k i
-    → set m ((k + i) / 64) (bit_or (get_or m ((k + i) / 64) 0) ((1 * 2 ^ ((k + i) % 64)) % 18446744073709551616)) ≡ mark_run m₀ k (i + 1)
-run_more m₀ m k i e = mark_or m (k + i) ∙ ap (λ (l : List ℕ). with_mark l (k + i)) e ∙ ap (mark_run m₀ k) (sym (add-one i))
+-- a mark more of a run, the one at j
+pub run_more : (m₀ m : List ℕ) (k j : ℕ) → k ≤ j → m ≡ mark_run m₀ k (j - k)
+    → set m (j / 64) (bit_or (get_or m (j / 64) 0) ((1 * 2 ^ (j % 64)) % 18446744073709551616)) ≡ mark_run m₀ k (j + 1 - k)
+run_more m₀ m k j h e =
+    let at : j ≡ k + (j - k) = omega arith in
+    let next : suc (j - k) ≡ j + 1 - k = omega arith in
+    mark_or m j ∙ ap (λ (l : List ℕ). with_mark l j) e ∙ ap (with_mark (mark_run m₀ k (j - k))) at ∙ ap (mark_run m₀ k) next
 
 -- after a mark is set the marks are those before, and it
 pub marked_mark : (m : List ℕ) (i j : ℕ) → length m ≡ mark_words → i < most_fragments → marked (with_mark m i) j ≡ marked m j || eqb i j

@@ -5,15 +5,19 @@ use native.Mathlib.Nat.{not-suc-le-zero, le_of_suc-le-suc}
 use mathlib.Core.Path.{◌≡◌, refl, sym, ap, subst, ◌∙◌}
 use mathlib.Core.Bool.{Bool, true, false, cond, ◌&&◌}
 use mathlib.Core.Logic.{◌⊎◌, inl, inr, ⊎_elim}
-use mathlib.Core.List.{List, [], ◌∷◌}
-use lib.ListN.{length, get_or, set, take, drop, replicate, length-drop, drop_of_length-le}
+use mathlib.Core.List.{List, [], ◌∷◌, map}
+use lib.ListN.{length, get_or, set, drop, replicate, length-drop, length-map}
 use lib.Seq.{drop-cons}
 use lib.Dec.{ltb, eqb}
 use borrow.Author.Tests.{ltb-true, ltb-false, eqb-true, eqb-false, lt-ltb, le-ltb, eq-eqb, ne_eqb}
+use Rattle.std.specs.Prelude.{Some, None, IsSome, is_some, unwrap_or}
+use Rattle.std.proofs.lemmas.Option.{cond_some, none-some}
+use Rattle.std.specs.List.{position_or_len, fold, reduce, filter}
 use Rattle.assembly_record.specs.Sizes.{place_count}
-use Rattle.outcome.proofs.Split.{split, split_lt}
+use Rattle.assembly_record.specs.Words.{place_of}
+use Rattle.outcome.proofs.Split.{split, split_lt, clash}
 use Rattle.assembly_record.specs.State.{Place, place_at, free_place}
-use Rattle.assembly_record.specs.Table.{find, has_number, highest_of, how_many, in_assembly, is_taken, lower, lowest_of, is_partially_received}
+use Rattle.assembly_record.specs.Table.{find, has_number, highest_of, how_many, in_assembly, is_taken, lower, lowest_of, is_partially_received, found_place}
 
 pub find_le : (n : ℕ) (ps : List Place) → find n ps ≤ length ps
 find_le n [] = omega arith
@@ -60,6 +64,33 @@ find_none n ps none =
 
 pub find_some : (n : ℕ) (ps : List Place) (i : ℕ) → i < length ps → (place_at ps i).number ≡ n → find n ps < length ps
 find_some n ps i l e = let b : i < find n ps → ⊥ = λ h. find_miss n ps i h e in omega (arith, b)
+
+-- what is said of a place that is found, and where none is
+pub found_some : (n : ℕ) (ps : List Place) (i : ℕ) → Some i ≡ found_place n ps → (i ≡ find n ps) × (i < length ps) × (has_number ps n ≡ true)
+unfolding has_number
+found_some n ps i e =
+    let x = cond_some (ltb (find n ps) (length ps)) (find n ps) i (sym e) in
+    (sym x.1, omega (arith, x.1, ltb-true (find n ps) (length ps) x.0), x.0)
+
+pub found_none : (n : ℕ) (ps : List Place) → None ≡ found_place n ps → (length ps ≤ find n ps) × (has_number ps n ≡ false)
+unfolding has_number
+found_none n ps e =
+    split (ltb (find n ps) (length ps))
+    (λ t. absurd (none-some (find n ps) (e ∙ rw t refl)))
+    (λ t. (ltb-false (find n ps) (length ps) t, t))
+
+pub found_is : (n : ℕ) (ps : List Place) → find n ps < length ps → IsSome (found_place n ps)
+unfolding has_number
+found_is n ps h = rw (lt-ltb (find n ps) (length ps) h) refl
+
+-- the same where it is only asked whether one is
+pub found_yes : (n : ℕ) (ps : List Place) → is_some (found_place n ps) ≡ true → find n ps < length ps
+unfolding has_number
+found_yes n ps e = split (ltb (find n ps) (length ps)) (λ t. ltb-true (find n ps) (length ps) t) (λ t. absurd (clash false (rw t at e) refl))
+
+pub found_no : (n : ℕ) (ps : List Place) → is_some (found_place n ps) ≡ false → length ps ≤ find n ps
+unfolding has_number
+found_no n ps e = split (ltb (find n ps) (length ps)) (λ t. absurd (clash true refl (rw t at e))) (λ t. ltb-false (find n ps) (length ps) t)
 
 -- what has a number stands inside the table
 pub inside_at : (ps : List Place) (j : ℕ) → 0 < (place_at ps j).number → j < length ps
@@ -182,11 +213,6 @@ lower_but n ps i h =
 
 -- ---- the highest and the lowest, as the code finds them
 
-pub highest_take : (ps : List Place) (i : ℕ) → i < length ps → highest_of (take (suc i) ps) ≡ max (highest_of (take i ps)) (place_at ps i).number
-highest_take [] i h = absurd (not-suc-le-zero h)
-highest_take (p ∷ ps) zero h = omega arith
-highest_take (p ∷ ps) (suc i) h = omega (arith, highest_take ps i (le_of_suc-le-suc h))
-
 pub lowest_cons : (p : Place) (ps : List Place) → 0 < length ps → lowest_of (p ∷ ps) ≡ min p.number (lowest_of ps)
 lowest_cons p [] h = absurd (not-suc-le-zero h)
 lowest_cons p (q ∷ ps) h = refl
@@ -216,28 +242,46 @@ lowest_is (p ∷ (q ∷ ps)) h = go (lowest_is (q ∷ ps) (omega arith)) (ltb p.
 pub lowest_found : (ps : List Place) → 0 < length ps → find (lowest_of ps) ps < length ps
 lowest_found ps h = let w = lowest_is ps h in find_some (lowest_of ps) ps w.0 w.1 w.2
 
--- one more place, from the end
-pub lowest_drop : (ps : List Place) (i : ℕ) (d : Place) → 0 < i → i < length ps
-    → lowest_of (drop (i - 1) ps) ≡ min (get_or ps (i - 1) d).number (lowest_of (drop i ps))
-lowest_drop ps i d h l =
-    let e : suc (i - 1) ≡ i = omega arith in
-    ap lowest_of (drop-cons ps (i - 1) d (omega arith))
-    ∙ ap (λ (k : ℕ). lowest_of (get_or ps (i - 1) d ∷ drop k ps)) e
-    ∙ lowest_cons (get_or ps (i - 1) d) (drop i ps) (omega (arith, length-drop i ps))
+-- ---- the rows, as the code searches and counts them
 
-pub lowest_last : (ps : List Place) (i : ℕ) (d : Place) → length ps ≡ suc i → lowest_of (drop i ps) ≡ (get_or ps i d).number
-lowest_last ps i d h =
-    let z : drop (suc i) ps ≡ [] = drop_of_length-le ps {i = suc i} (omega arith) in
-    ap lowest_of (drop-cons ps i d (omega arith)) ∙ ap (λ (l : List Place). lowest_of (get_or ps i d ∷ l)) z
+abbrev pub row_number : List ℕ → ℕ
+row_number r = get_or r 0 0
+
+find_rows : (n : ℕ) (rs : List (List ℕ)) → position_or_len (λ (r : List ℕ). eqb (row_number r) n) rs ≡ find n (map place_of rs)
+find_rows n [] = refl
+find_rows n (r ∷ rs) =
+    let ih = find_rows n rs in
+    split (eqb (row_number r) n) (λ e. rw e refl) (λ e. rw e (omega arith))
+
+pub found_rows : (n : ℕ) (rs : List (List ℕ)) → cond (ltb (position_or_len (λ (r : List ℕ). eqb (row_number r) n) rs) (length rs)) (Some (position_or_len (λ (r : List ℕ). eqb (row_number r) n) rs)) None
+    ≡ found_place n (map place_of rs)
+unfolding has_number
+found_rows n rs = rw (find_rows n rs, length-map rs place_of)
+
+fold_max : (a : ℕ) (rs : List (List ℕ)) → fold max a (map row_number rs) ≡ max a (highest_of (map place_of rs))
+fold_max a [] = omega arith
+fold_max a (r ∷ rs) = let ih = fold_max (max a (row_number r)) rs in omega arith
+
+pub highest_rows : (rs : List (List ℕ)) → unwrap_or (reduce max (map row_number rs)) 0 ≡ highest_of (map place_of rs)
+highest_rows [] = refl
+highest_rows (r ∷ rs) = fold_max (row_number r) rs
+
+fold_min : (a : ℕ) (r : List ℕ) (rs : List (List ℕ)) → fold min a (map row_number (r ∷ rs)) ≡ min a (lowest_of (map place_of (r ∷ rs)))
+fold_min a r [] = refl
+fold_min a r (q ∷ rs) = let ih = fold_min (min a (row_number r)) q rs in omega arith
+
+pub lowest_rows : (rs : List (List ℕ)) → unwrap_or (reduce min (map row_number rs)) 0 ≡ lowest_of (map place_of rs)
+lowest_rows [] = refl
+lowest_rows (r ∷ []) = refl
+lowest_rows (r ∷ (q ∷ rs)) = fold_min (row_number r) q rs
+
+pub count_rows : (test : Place → Bool) (rs : List (List ℕ)) → length (filter (λ (r : List ℕ). test (place_of r)) rs) ≡ how_many test (map place_of rs)
+count_rows test [] = refl
+count_rows test (r ∷ rs) =
+    let ih = count_rows test rs in
+    split (test (place_of r)) (λ e. rw e (omega arith)) (λ e. rw e ih)
 
 -- ---- the query
-
-pub query_no : (ps : List Place) (n : ℕ) → n ≡ 0 → false ≡ is_partially_received ps n
-query_no ps n e = rw (eq-eqb n 0 e)
-
-pub query_yes : (ps : List Place) (n k : ℕ) → length ps ≡ place_count → (n ≡ 0 → ⊥) → k ≡ find n ps → ltb k place_count ≡ is_partially_received ps n
-unfolding has_number
-query_yes ps n k l z e = rw (ne_eqb n 0 z) (ap (λ (j : ℕ). ltb j place_count) e ∙ ap (ltb (find n ps)) (sym l))
 
 pub query_found : (ps : List Place) (n : ℕ) → 0 < n → is_partially_received ps n ≡ true → (j : ℕ) × (j < length ps) × ((place_at ps j).number ≡ n)
 unfolding has_number

@@ -1,14 +1,15 @@
 -- Laws of `specs/Words.antt`: a row read, a row lent and back, and that words are the record of their state. Assumes nothing.
-use Prim.Native.Nat.{ℕ, zero, suc, ◌+◌, ◌*◌, ◌-◌, ◌≤◌, ◌<◌}
+use Prim.Native.Nat.{ℕ, zero, suc, ◌+◌, ◌*◌, ◌-◌, ◌/◌, ◌≤◌, ◌<◌}
 use native.Mathlib.Omega.{arith}
 use native.Mathlib.Nat.{not-suc-le-zero, le_of_suc-le-suc}
 use mathlib.Core.Path.{◌≡◌, refl, sym, ap, ◌∙◌}
 use mathlib.Core.Bool.{Bool, true, false}
-use mathlib.Core.List.{List, [], ◌∷◌, ◌++◌, append_assoc}
+use mathlib.Core.List.{List, [], ◌∷◌, ◌++◌, map, append_assoc}
 use lib.ListN.{length, get_or, set, take, drop, length-append, length-take, length-drop, take-append-drop}
-use lib.Seq.{length-take-le, get_or-take, get_or-drop, drop-drop, take-append-le, take_at, drop_at, take-add, take-take}
+use lib.Seq.{length-take-le, get_or-take, get_or-drop, drop-drop, take-append-le, take_all, take_at, drop_at, take-add, take-take}
 use lib.Dec.{eqb}
 use borrow.Author.Tests.{eqb-true, eqb-false}
+use Rattle.std.specs.Simd.{first_chunks}
 use Rattle.assembly_record.specs.Sizes.{place_count, row_size, assembler_size}
 use Rattle.outcome.proofs.Split.{split}
 use Rattle.assembly_record.specs.Rows.{Became}
@@ -31,6 +32,36 @@ row_at (suc n) (suc i) l h =
   where
     step : 7 + row_size * i ≡ row_size * suc i
     step = omega arith
+
+-- the rows, all at once
+chunks_rows : (n : ℕ) (l : List ℕ) → map place_of (first_chunks row_size n l) ≡ rows_of n l
+chunks_rows zero l = refl
+chunks_rows (suc n) l = ap (λ (ps : List Place). place_of (take row_size l) ∷ ps) (chunks_rows n (drop row_size l))
+
+pub chunks_places : (w : List ℕ) (rs : List (List ℕ)) → length w ≡ assembler_size
+    → rs ≡ first_chunks row_size (length (take (length w - 3) (drop 3 w)) / row_size) (take (length w - 3) (drop 3 w)) → map place_of rs ≡ places_of w
+unfolding places_of
+chunks_places w rs e h =
+    let all : take (length w - 3) (drop 3 w) ≡ drop 3 w = take_all (length w - 3) (drop 3 w) (omega (arith, length-drop 3 w)) in
+    let n : length (drop 3 w) / row_size ≡ place_count = omega (arith, length-drop 3 w) in
+    ap (map place_of) h
+    ∙ ap (λ (l : List ℕ). map place_of (first_chunks row_size (length l / row_size) l)) all
+    ∙ ap (λ (k : ℕ). map place_of (first_chunks row_size k (drop 3 w))) n
+    ∙ chunks_rows place_count (drop 3 w)
+
+-- one of them
+pub row_place : (rs : List (List ℕ)) (ps : List Place) (i : ℕ) (d : List ℕ) → map place_of rs ≡ ps → i < length rs → place_of (get_or rs i d) ≡ place_at ps i
+row_place rs ps i d e l = go rs i l ∙ ap (λ (qs : List Place). place_at qs i) e
+  where
+    go : (rs : List (List ℕ)) (i : ℕ) → i < length rs → place_of (get_or rs i d) ≡ place_at (map place_of rs) i
+    go [] i l = absurd (not-suc-le-zero l)
+    go (x ∷ rs) zero l = refl
+    go (x ∷ rs) (suc i) l = go rs i (le_of_suc-le-suc l)
+
+-- its marks, as the code reads them
+pub row_marks : (rs : List (List ℕ)) (ps : List Place) (i : ℕ) (d : List ℕ) → map place_of rs ≡ ps → i < length rs → length (get_or rs i d) ≡ row_size
+    → take 4 (drop 3 (get_or rs i d)) ≡ (place_at ps i).marks
+row_marks rs ps i d e l n = take_all 4 (drop 3 (get_or rs i d)) (omega (arith, length-drop 3 (get_or rs i d))) ∙ ap (λ (p : Place). p.marks) (row_place rs ps i d e l)
 
 -- row i, lent and back as ys
 pub row_back : (n i : ℕ) (l ys : List ℕ) → i < n → row_size * n ≤ length l → length ys ≡ row_size

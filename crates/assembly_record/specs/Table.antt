@@ -1,5 +1,5 @@
 -- What is asked of the table: where a number stands, how many are in assembly, the highest and the lowest number. Assumes nothing.
-use Rattle.std.specs.Prelude.{ℕ, suc, max, min, Bool, false, cond, ◌&&◌, List, [], ◌∷◌, length, ltb, eqb}
+use Rattle.std.specs.Prelude.{ℕ, suc, max, min, Bool, false, cond, ◌&&◌, List, [], ◌∷◌, length, ltb, eqb, Option, Some, None}
 use Rattle.assembly_record.specs.State.{Place}
 
 -- the lowest place that has the number n, or how many places there are; n = 0 finds the lowest free place
@@ -10,6 +10,10 @@ find n (p ∷ ps) = cond (eqb p.number n) 0 (suc (find n ps))
 -- whether some place has the number n
 unfoldable pub has_number : List Place → ℕ → Bool
 has_number ps n = ltb (find n ps) (length ps)
+
+-- the lowest place that has the number n, or nothing where none has
+abbrev pub found_place : ℕ → List Place → Option ℕ
+found_place n ps = cond (has_number ps n) (Some (find n ps)) None
 
 -- "A query says whether a number is in assembly": of one number (`in_assembly` says of how many). 0 stands for a number that row 4 refuses: no sample has it
 abbrev pub is_partially_received : List Place → ℕ → Bool

@@ -21,6 +21,7 @@ pub const MARK_WORDS: usize = 4;
 
 pub const PLACES: usize = 129; // one more than may stay in assembly
 
-pub const LAST: usize = 128; // the last place
-
 pub const ASSEMBLER_WORDS: usize = 906; // all words
+
+// The words of one place.
+pub type Row = [u64; ROW];

@@ -5,21 +5,13 @@ ghost use Rattle.outcome.specs.Lent.{over};
 ghost use Rattle.assembly_record.specs.Marks.{marked, mark_run, gaps};
 ghost use Rattle.assembly_record.specs.Rows.{FirstGap};
 
-use crate::layout::MARK_WORDS;
-
 // The n marks from k, counted from 0, are set.
 pub(crate) fn mark_run(m: &mut [u64], k: usize, n: usize)
     requires { (k + n ≤ most_fragments) × (length m.old ≡ mark_words) }
     ensures { m.new ≡ mark_run m.old k n }
 {
-    let mut i = 0;
-    while i < n {
-        let j = k + i;
-        let w = j / 64;
-        let b = (j % 64) as u64;
-        let bit: u64 = 1 << b;
-        m[w] = m[w] | bit;
-        i += 1;
+    for j in k..k + n {
+        m[j / 64] |= 1 << (j % 64);
     }
 }
 
@@ -27,10 +19,7 @@ fn is_marked(m: &[u64], j: usize) -> bool
     requires { (j < most_fragments) × (length m.now ≡ mark_words) }
     ensures { result ≡ marked m.now j }
 {
-    let w = j / 64;
-    let b = (j % 64) as u64;
-    let x = m[w];
-    (x >> b) % 2 == 1
+    (m[j / 64] >> (j % 64)) % 2 == 1
 }
 
 // How many marks are set before the first that is not.
@@ -38,15 +27,12 @@ pub(crate) fn first_gap(m: &[u64]) -> usize
     requires { length m.now ≡ mark_words }
     ensures { FirstGap m.now result }
 {
-    let mut i = 0;
-    while i < MARK_WORDS {
-        let x = !m[i];
-        if x != 0 {
-            return 64 * i + u64::trailing_zeros(x) as usize;
+    for (i, word) in m.iter().enumerate() {
+        if *word != u64::MAX {
+            return 64 * i + word.trailing_ones() as usize;
         }
-        i += 1;
     }
-    64 * i
+    64 * m.len()
 }
 
 // How many of the first n marks are not set.
@@ -54,12 +40,9 @@ pub fn count_gaps(m: &[u64], n: usize) -> usize
     requires { (length m.now ≡ mark_words) × (n ≤ most_fragments) }
     ensures { result ≡ length (gaps m.now n) }
 {
-    let mut i = 0;
     let mut k = 0;
-    while i < n {
-        let j = i;
-        i += 1;
-        if !is_marked(m, j) {
+    for i in 0..n {
+        if !is_marked(m, i) {
             k += 1;
         }
     }
@@ -71,13 +54,10 @@ pub fn list_gaps(m: &[u64], n: usize, out: &mut [u32])
     requires { (length m.now ≡ mark_words) × ((n ≤ most_fragments) × (length (gaps m.now n) ≤ length out.old)) }
     ensures { out.new ≡ over (gaps m.now n) out.old }
 {
-    let mut i = 0;
     let mut k = 0;
-    while i < n {
-        let j = i;
-        i += 1;
-        if !is_marked(m, j) {
-            out[k] = i as u32;
+    for i in 0..n {
+        if !is_marked(m, i) {
+            out[k] = i as u32 + 1;
             k += 1;
         }
     }

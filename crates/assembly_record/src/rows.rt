@@ -1,40 +1,40 @@
 // A place of the table: one row of the record, lent on to what changes it.
-ghost use Rattle.std.specs.Prelude.{◌≡◌, ◌+◌, ◌<◌, ◌≤◌, length, get_or, set, replicate};
+ghost use Rattle.std.specs.Prelude.{◌≡◌, ◌+◌, ◌<◌, ◌≤◌, length, get_or, set};
 ghost use Rattle.assembly_record.specs.Sizes.{place_count, most_fragments, row_size, assembler_size};
 ghost use Rattle.assembly_record.specs.State.{free_place, place_at};
 ghost use Rattle.assembly_record.specs.Fragments.{is_whole};
 ghost use Rattle.assembly_record.specs.Words.{place_of, places_of};
 ghost use Rattle.assembly_record.specs.Rows.{Became, opened_row, place_ran, Counts};
 
-use crate::layout::{FRAGMENT_SIZE, MARK_WORDS, MARKS, NUMBER, ROW, SIZE, TABLE, TIME};
+use crate::layout::{FRAGMENT_SIZE, MARKS, NUMBER, ROW, SIZE, TABLE, TIME};
 use crate::marks::{first_gap, mark_run};
-
-pub fn wipe(d: &mut [u64])
-    ensures { d.new ≡ replicate (length d.old) 0 }
-{
-    let mut i = 0;
-    while i < d.len() {
-        d[i] = 0;
-        i += 1;
-    }
-}
+use crate::table::rows;
 
 fn open_row(row: &mut [u64], number: u64, size: u64)
     requires { length row.old ≡ row_size }
     ensures { row.new ≡ opened_row number size }
 {
-    wipe(row);
+    row.fill(0);
     row[NUMBER] = number;
     row[SIZE] = size;
 }
 
-fn run_row(row: &mut [u64], number: u64, time: u64, k: usize, n: usize)
-    requires { (length row.old ≡ row_size) × (k + n ≤ most_fragments) }
-    ensures { place_of row.new ≡ place_ran (place_of row.old) number time k n }
+// What a run stores in its place: the number, the time, and the marks of `count` fragments from `first`, counted from 0.
+#[derive(Clone, Copy)]
+pub struct Run {
+    pub number: u64,
+    pub time: u64,
+    pub first: usize,
+    pub count: usize,
+}
+
+fn run_row(row: &mut [u64], run: Run)
+    requires { (length row.old ≡ row_size) × (run.first + run.count ≤ most_fragments) }
+    ensures { place_of row.new ≡ place_ran (place_of row.old) run.number run.time run.first run.count }
 {
-    row[NUMBER] = number;
-    row[TIME] = time;
-    mark_run(&mut row[MARKS..ROW], k, n);
+    row[NUMBER] = run.number;
+    row[TIME] = run.time;
+    mark_run(&mut row[MARKS..ROW], run.first, run.count);
 }
 
 // Place `seat` holds a sample of which nothing has come yet.
@@ -43,18 +43,16 @@ pub fn open_at(t: &mut [u64], seat: usize, number: u64, size: u64)
     ensures { Became t.old (set (places_of t.old) seat (place_of (opened_row number size))) t.new }
 {
     let b = TABLE + ROW * seat;
-    let e = b + ROW;
-    open_row(&mut t[b..e], number, size);
+    open_row(&mut t[b..b + ROW], number, size);
 }
 
 // Place `seat` takes the time and the marks of a run.
-pub fn run_at(t: &mut [u64], seat: usize, number: u64, time: u64, k: usize, n: usize)
-    requires { (length t.old ≡ assembler_size) × ((seat < place_count) × (k + n ≤ most_fragments)) }
-    ensures { Became t.old (set (places_of t.old) seat (place_ran (place_at (places_of t.old) seat) number time k n)) t.new }
+pub fn run_at(t: &mut [u64], seat: usize, run: Run)
+    requires { (length t.old ≡ assembler_size) × ((seat < place_count) × (run.first + run.count ≤ most_fragments)) }
+    ensures { Became t.old (set (places_of t.old) seat (place_ran (place_at (places_of t.old) seat) run.number run.time run.first run.count)) t.new }
 {
     let b = TABLE + ROW * seat;
-    let e = b + ROW;
-    run_row(&mut t[b..e], number, time, k, n);
+    run_row(&mut t[b..b + ROW], run);
 }
 
 // Place `seat` is freed.
@@ -63,8 +61,7 @@ pub fn wipe_at(t: &mut [u64], seat: usize)
     ensures { Became t.old (set (places_of t.old) seat free_place) t.new }
 {
     let b = TABLE + ROW * seat;
-    let e = b + ROW;
-    wipe(&mut t[b..e]);
+    t[b..b + ROW].fill(0);
 }
 
 // Whether all fragments of place `seat` have come: those before the first gap reach the sample's end.
@@ -72,9 +69,7 @@ pub fn whole_at(t: &[u64], seat: usize) -> bool
     requires { Counts t.now seat }
     ensures { result ≡ is_whole (get_or t.now 0 0) (place_at (places_of t.now) seat) }
 {
-    let b = TABLE + ROW * seat + MARKS;
-    let e = b + MARK_WORDS;
-    let come = first_gap(&t[b..e]) as u64;
-    let d = t[TABLE + ROW * seat + SIZE];
-    d <= come * t[FRAGMENT_SIZE]
+    let row = &rows(t)[seat];
+    let come = first_gap(&row[MARKS..]) as u64;
+    row[SIZE] <= come * t[FRAGMENT_SIZE]
 }

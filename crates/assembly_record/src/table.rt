@@ -1,56 +1,40 @@
-// The table: where a number stands, the highest and the lowest.
-ghost use Rattle.std.specs.Prelude.{◌≡◌, length, get_or, eqb};
-ghost use Rattle.assembly_record.specs.Sizes.{assembler_size};
-ghost use Rattle.assembly_record.specs.Table.{find, highest_of, lowest_of, victim};
-ghost use Rattle.assembly_record.specs.Words.{places_of};
+// The table: its rows, where a number stands, the highest and the lowest.
+ghost use Rattle.std.specs.Prelude.{◌≡◌, length, get_or, eqb, map};
+ghost use Rattle.assembly_record.specs.Sizes.{place_count, assembler_size};
+ghost use Rattle.assembly_record.specs.Table.{found_place, highest_of, lowest_of, victim};
+ghost use Rattle.assembly_record.specs.Words.{place_of, places_of};
 
-use crate::layout::{LAST, MODE, PLACES, ROW, TABLE};
+use crate::layout::{MODE, NUMBER, ROW, Row, TABLE};
 
-// The lowest place that has the number n, 129 where none has; the lowest free place for n = 0.
-pub fn seek(t: &[u64], n: u64) -> usize
+// The rows of the places.
+pub fn rows(t: &[u64]) -> &[Row]
     requires { length t.now ≡ assembler_size }
-    ensures { result ≡ find n (places_of t.now) }
+    ensures long { length result.now ≡ place_count }
+    ensures places { map place_of result.now ≡ places_of t.now }
 {
-    let mut i = 0;
-    while i < PLACES {
-        if t[TABLE + ROW * i] == n {
-            return i;
-        }
-        i += 1;
-    }
-    i
+    t[TABLE..].as_chunks::<ROW>().0
+}
+
+// The lowest place that has the number n; the lowest free place for n = 0.
+pub fn seek(t: &[u64], n: u64) -> Option<usize>
+    requires { length t.now ≡ assembler_size }
+    ensures { result ≡ found_place n (places_of t.now) }
+{
+    rows(t).iter().position(|row| row[NUMBER] == n)
 }
 
 fn highest(t: &[u64]) -> u64
     requires { length t.now ≡ assembler_size }
     ensures { result ≡ highest_of (places_of t.now) }
 {
-    let mut i = 0;
-    let mut h = 0;
-    while i < PLACES {
-        let x = t[TABLE + ROW * i];
-        if h < x {
-            h = x;
-        }
-        i += 1;
-    }
-    h
+    rows(t).iter().map(|row| row[NUMBER]).max().unwrap_or(0)
 }
 
 fn lowest(t: &[u64]) -> u64
     requires { length t.now ≡ assembler_size }
     ensures { result ≡ lowest_of (places_of t.now) }
 {
-    let mut i = LAST;
-    let mut h = t[TABLE + ROW * i];
-    while 0 < i {
-        i -= 1;
-        let x = t[TABLE + ROW * i];
-        if x < h {
-            h = x;
-        }
-    }
-    h
+    rows(t).iter().map(|row| row[NUMBER]).min().unwrap_or(0)
 }
 
 // Which number goes where 129 are in assembly.
@@ -58,8 +42,5 @@ pub fn pick_victim(t: &[u64]) -> u64
     requires { length t.now ≡ assembler_size }
     ensures { result ≡ victim (eqb (get_or t.now 2 0) 1) (places_of t.now) }
 {
-    if t[MODE] == 1 {
-        return highest(t);
-    }
-    lowest(t)
+    if t[MODE] == 1 { highest(t) } else { lowest(t) }
 }

@@ -8,11 +8,12 @@ use lib.ListN.{length, get_or, set}
 use lib.Seq.{set-set, set-get_or}
 use lib.Dec.{eqb}
 use Rattle.assembly_record.specs.Sizes.{place_count, largest_place, row_size, assembler_size}
-use Rattle.outcome.specs.Outcome.{done}
 use Rattle.fragment_assembler.proofs.CallLaws.{settle_kept, victim_found, settle_dropped, end_whole, end_not}
 use Rattle.assembly_record.proofs.WordsLaws.{became_then, length_places, size_at, same}
 use Rattle.fragment_assembler.specs.Call.{Ending, drop_if_full, dropped, end_at, returned}
-use Rattle.assembly_record.specs.Table.{victim, find}
+use Rattle.std.specs.Prelude.{IsSome}
+use Rattle.assembly_record.proofs.TableLaws.{found_is}
+use Rattle.assembly_record.specs.Table.{victim, find, found_place}
 use Rattle.assembly_record.specs.Fragments.{is_whole}
 use Rattle.assembly_record.specs.Rows.{Became}
 use Rattle.fragment_assembler.specs.Inner.{Ends, Closes}
@@ -35,6 +36,9 @@ module _ (w : List ℕ) (m : Bool) where
   pub ends_kept : length w ≡ assembler_size → find 0 (places_of w) < place_count → Ends w (drop_if_full m (places_of w)) Kept w
   ends_kept e h = ends_as w _ _ Kept w (sym (settle_kept m (places_of w) (length_places w) h)) (record { answer = refl; became = same w e })
 
+  pub victim_some : (v : ℕ) → v ≡ victim m (places_of w) → IsSome (found_place v (places_of w))
+  victim_some v e = rw e (found_is (victim m (places_of w)) (places_of w) (victim_found m (places_of w) (omega (arith, length_places w))))
+
   pub victim_in : (v i : ℕ) → v ≡ victim m (places_of w) → i ≡ find v (places_of w) → i < place_count
   victim_in v i e f =
       omega (arith, f ∙ ap (λ (n : ℕ). find n (places_of w)) e, length_places w, victim_found m (places_of w) (omega (arith, length_places w)))
@@ -45,7 +49,7 @@ module _ (w : List ℕ) (m : Bool) where
       let j : i ≡ find (victim m (places_of w)) (places_of w) = f ∙ ap (λ (n : ℕ). find n (places_of w)) e in
       ends_as w _ _ (Dropped v) w' (sym (settle_dropped m (places_of w) (length_places w) h))
       (record {
-        answer = ap (λ (n : ℕ). done (dropped n)) e;
+        answer = ap dropped e;
         became = subst (λ (k : ℕ). Became w (set (places_of w) k free_place) w') j b;
       })
 
@@ -57,7 +61,7 @@ module _ (w : List ℕ) (seat : ℕ) where
       → Ends w (end_at (assembler_of w) seat (place_at (places_of w) seat)) (Returned number seat size) w'
   ends_whole number size w' t en es b =
       ends_as w _ _ (Returned number seat size) w' (sym (end_whole (assembler_of w) seat (place_at (places_of w) seat) t))
-      (record { answer = ap (λ (n : ℕ). done (returned n seat size)) en ∙ ap (λ (n : ℕ). done (returned (place_at (places_of w) seat).number seat n)) es; became = b })
+      (record { answer = ap (λ (n : ℕ). returned n seat size) en ∙ ap (returned (place_at (places_of w) seat).number seat) es; became = b })
 
   pub ends_not : (r : Answer) (w' : List ℕ) → is_whole (get_or w 0 0) (place_at (places_of w) seat) ≡ false
       → Ends w (drop_if_full (eqb (get_or w 2 0) 1) (places_of w)) r w'
@@ -65,10 +69,6 @@ module _ (w : List ℕ) (seat : ℕ) where
   ends_not r w' t h =
       ends_as w _ _ r w'
       (ap (drop_if_full (eqb (get_or w 2 0) 1)) (sym (set-get_or (places_of w) seat free_place)) ∙ sym (end_not (assembler_of w) seat (place_at (places_of w) seat) t)) h
-
-module _ (w : List ℕ) (seat : ℕ) (o : Bool) (h : Closes w seat o) where
-  pub close_size : get_or w (3 + row_size * seat + 1) 0 ≤ largest_place
-  close_size = omega (arith, size_at w seat h.within, h.size)
 
 -- a place that was stored at the seat already does not count
 pub end_over : (a : Assembler) (i : ℕ) (q p : Place) → end_at (with_places a (set a.places i q)) i p ≡ end_at a i p

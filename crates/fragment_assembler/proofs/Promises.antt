@@ -12,7 +12,10 @@ use lib.Dec.{ltb, eqb}
 use Rattle.assembly_record.specs.Sizes.{place_count, largest_place, assembler_size}
 use borrow.Author.Tests.{eqb-true, not-false}
 use Rattle.outcome.specs.Outcome.{done, is_refused}
-use Rattle.outcome.specs.Answers.{set_up_said, SetUpReply, listing_said, ListReply}
+use Rattle.outcome.specs.Answers.{SetUpReply, ListReply}
+use Rattle.outcome.specs.Refusal.{said}
+use Rattle.outcome.specs.declared.Refusal.{Refusal}
+use Rattle.std.specs.Prelude.{Result}
 use Rattle.fragment_assembler.proofs.CallRules.{fragment_ok}
 use Rattle.fragment_assembler.proofs.CallLaws.{fragment_fixed}
 use Rattle.fragment_assembler.proofs.CleanLaws.{clean_ok, clean_fixed}
@@ -28,7 +31,7 @@ use Rattle.assembly_record.proofs.TableLaws.{highest_found, highest_ge, lowest_f
 use Rattle.fragment_assembler.specs.Call.{fragment, Work, begin_work, run_work, run_length, run_at, kept, returned, dropped, accepted_fragment, FragmentReply, fragment_said}
 use Rattle.assembly_record.specs.Fragments.{is_whole, fragments, fragments_on_paper, first_byte, end_byte}
 use Rattle.assembly_record.specs.Table.{victim, has_number, find, in_assembly, is_partially_received}
-use Rattle.fragment_assembler.specs.Clean.{clean, CleanReply, cleaned_said}
+use Rattle.fragment_assembler.specs.Clean.{clean, CleanReply}
 use Rattle.assembly_record.specs.Stale.{stale_numbers, sweep}
 use Rattle.assembly_record.specs.Marks.{marked, covers}
 use Rattle.fragment_assembler.specs.Missing.{missing_fragments, missing_fragments_for}
@@ -40,11 +43,8 @@ use Rattle.fragment_assembler.specs.SetUp.{fresh_assembler, set_up_assembler, se
 use Rattle.assembly_record.specs.State.{Assembler, Fixed, free_place, place_at, Place}
 use Rattle.fragment_assembler.specs.View.{viewed, view_start}
 use Rattle.assembly_record.specs.Words.{assembler_of, assembler_words}
-use Rattle.outcome.specs.declared.SetUp.{SetUp}
 use Rattle.outcome.proofs.Split.{split}
 use Rattle.fragment_assembler.specs.declared.fragment.Answer.{Answer}
-use Rattle.fragment_assembler.specs.declared.clean.Cleaned.{Cleaned}
-use Rattle.outcome.specs.declared.Listing.{Listing}
 
 -- ==== Fragments
 
@@ -160,8 +160,8 @@ pub clean_rules : (a : Assembler) (t : ℕ) (out : List ℤ) → AssemblerRules 
 clean_rules = clean_ok
 
 -- what set-up leaves in a record's own 906 words is a record by the rules
-pub set_up_leaves : (w : List ℕ) (f : ℕ) (reliable : Bool) (p : ℕ) (r : SetUp) (w' : List ℕ) → SetsUpAssembler w f reliable p r w' → length w' ≡ assembler_size
-    → set_up_said r ≡ done tt → GoodAssembler w'
+pub set_up_leaves : (w : List ℕ) (f : ℕ) (reliable : Bool) (p : ℕ) (r : Result (Unit {0}) Refusal) (w' : List ℕ) → SetsUpAssembler w f reliable p r w' → length w' ≡ assembler_size
+    → said r ≡ done tt → GoodAssembler w'
 set_up_leaves = set_up_record
 
 -- "with fixed fragment size f, mode reliable or best effort, and place size p": no call changes them
@@ -262,7 +262,7 @@ missing_is_refused a n out = split (ltb (length out) (length (missing_fragments 
 
 -- ==== The same of the public calls, by their promises
 
-module _ (w area : List ℕ) (c : Fragment) (r : Answer) (w' area' : List ℕ) (h : TakesFragment w area c r w' area') where
+module _ (w area : List ℕ) (c : Fragment) (r : Result Answer Refusal) (w' area' : List ℕ) (h : TakesFragment w area c r w' area') where
   -- "with fixed fragment size f, mode reliable or best effort, and place size p"
   pub does_fixed : Fixed (assembler_of w) (assembler_of w')
   does_fixed = subst (Fixed (assembler_of w)) (ap (λ (o : FragmentReply). o.state) (sym h.same)) (fragment_fixed (assembler_of w) area c)
@@ -282,17 +282,17 @@ module _ (w area : List ℕ) (c : Fragment) (r : Answer) (w' area' : List ℕ) (
       let ar : (fragment a area c).area ≡ area' = ap (λ (o : FragmentReply). o.area) (sym h.same) in
       rw (st, ar, p) at s
 
-module _ (w : List ℕ) (t : ℕ) (out : List ℤ) (r : Cleaned) (w' : List ℕ) (out' : List ℤ) (h : CleansAssembler w t out r w' out') where
+module _ (w : List ℕ) (t : ℕ) (out : List ℤ) (r : Result ℕ Refusal) (w' : List ℕ) (out' : List ℤ) (h : CleansAssembler w t out r w' out') where
   pub cleans_fixed : Fixed (assembler_of w) (assembler_of w')
   cleans_fixed = subst (Fixed (assembler_of w)) (ap (λ (o : CleanReply). o.state) (sym h.same)) (clean_fixed (assembler_of w) t out)
 
-  pub cleans_is_refused : is_refused (cleaned_said r) ≡ ltb (length out) (length (stale_numbers t (assembler_of w).places))
+  pub cleans_is_refused : is_refused (said r) ≡ ltb (length out) (length (stale_numbers t (assembler_of w).places))
   cleans_is_refused = ap (λ (o : CleanReply). is_refused o.answer) h.same ∙ clean_is_refused (assembler_of w) t out
 
-pub misses_is_refused : (w : List ℕ) (n : ℕ) (out : List ℕ) (r : Listing) (out' : List ℕ) → ListsFragments w n out r out'
-    → is_refused (listing_said r) ≡ ltb (length out) (length (missing_fragments (assembler_of w) n))
+pub misses_is_refused : (w : List ℕ) (n : ℕ) (out : List ℕ) (r : Result ℕ Refusal) (out' : List ℕ) → ListsFragments w n out r out'
+    → is_refused (said r) ≡ ltb (length out) (length (missing_fragments (assembler_of w) n))
 misses_is_refused w n out r out' h = ap (λ (o : ListReply ℕ). is_refused o.answer) h.same ∙ missing_is_refused (assembler_of w) n out
 
-pub sets_up_is_refused : (w : List ℕ) (f : ℕ) (reliable : Bool) (p : ℕ) (r : SetUp) (w' : List ℕ) → SetsUpAssembler w f reliable p r w'
-    → is_refused (set_up_said r) ≡ not (eqb (set_up_refusal f p (length w)) 0)
+pub sets_up_is_refused : (w : List ℕ) (f : ℕ) (reliable : Bool) (p : ℕ) (r : Result (Unit {0}) Refusal) (w' : List ℕ) → SetsUpAssembler w f reliable p r w'
+    → is_refused (said r) ≡ not (eqb (set_up_refusal f p (length w)) 0)
 sets_up_is_refused w f reliable p r w' h = ap (λ (o : SetUpReply). is_refused o.answer) h.same ∙ set_up_is_refused f reliable p w

@@ -1,10 +1,11 @@
 -- Laws of `specs/Refusal.antt`: each case as the code tests it, and what an accepted call has passed. Assumes nothing.
 use Prim.Native.Nat.{ℕ, ◌+◌, ◌*◌, ◌-◌, ◌≤◌, ◌<◌}
 use native.Mathlib.Omega.{arith}
-use mathlib.Core.Path.{◌≡◌, refl, subst}
+use mathlib.Core.Path.{◌≡◌, refl, sym, ap, ◌∙◌}
 use mathlib.Core.Bool.{Bool, true, false, cond, not, ◌&&◌, ◌||◌}
 use mathlib.Core.Logic.{⊎_elim}
-use lib.ListN.{length}
+use mathlib.Core.List.{List, [], map}
+use lib.ListN.{length, get_or}
 use lib.IntN.{ℤ, pos, negsuc}
 use lib.Dec.{ltb, leb, eqb}
 use mir.Syntax.{w64}
@@ -12,15 +13,40 @@ use mir.Val.{SFits, of_z, to_z}
 use mir.Facts.{to_z-of_z}
 use borrow.Author.Tests.{ltb-false, leb-false, eqb-true, eqb-false, not-false, lt-ltb, le-ltb, lt-leb, eq-eqb, ne_eqb}
 use Rattle.assembly_record.specs.Sizes.{place_count, most_fragments}
-use Rattle.sequence_number.specs.Number.{top, number_of, is_number}
-use Rattle.sequence_number.proofs.NumberLaws.{number_passed}
-use Rattle.outcome.proofs.Split.{split_lt, neither}
+use Rattle.std.specs.Prelude.{Option, Some, None}
+use Rattle.sequence_number.specs.Number.{top, number_of, is_number, taken}
+use Rattle.sequence_number.proofs.NumberLaws.{some_taken, none_taken}
+use Rattle.outcome.proofs.Split.{split, split_lt, neither}
 use Rattle.assembly_record.specs.Fragments.{fragments}
-use Rattle.fragment_assembler.specs.Inner.{RunOk}
+use Rattle.fragment_assembler.specs.Inner.{RunOk, opening_refusal}
+use Rattle.outcome.specs.Refusal.{number_of_refusal}
+use Rattle.outcome.specs.declared.Refusal.{Refusal}
+use Rattle.outcome.specs.declared.Refusal.TheVariants as row
 use Rattle.fragment_assembler.specs.Fragment.{FragmentHead}
 use Rattle.fragment_assembler.specs.Refusal.{run_refusal, fragment_refusal, opens, size_for}
-use Rattle.assembly_record.specs.State.{Assembler, place_at}
-use Rattle.assembly_record.specs.Table.{find, has_number}
+use Rattle.assembly_record.specs.State.{Assembler, Place, place_at}
+use Rattle.assembly_record.specs.Table.{find, found_place, has_number}
+use Rattle.assembly_record.specs.Words.{assembler_of, place_of, places_of}
+use Rattle.assembly_record.proofs.TableLaws.{found_some, found_none}
+use Rattle.assembly_record.proofs.WordsLaws.{length_places, row_place}
+
+-- no row has the number 0
+pub refusal_some : (r : Refusal) → number_of_refusal r ≡ 0 → ⊥
+refusal_some row.EndsEarly e = omega arith
+refusal_some row.TooManyBits e = omega arith
+refusal_some row.ShortOutput e = omega arith
+refusal_some row.NoNumber e = omega arith
+refusal_some row.BackwardRange e = omega arith
+refusal_some row.OtherFragmentSize e = omega arith
+refusal_some row.ShortSample e = omega arith
+refusal_some row.LongSample e = omega arith
+refusal_some row.ManyFragments e = omega arith
+refusal_some row.EmptyRun e = omega arith
+refusal_some row.StartZero e = omega arith
+refusal_some row.RunPastEnd e = omega arith
+refusal_some row.ShortArea e = omega arith
+refusal_some row.BadSetUp e = omega arith
+refusal_some row.NotRising e = omega arith
 
 -- ---- a run's refusals
 
@@ -39,6 +65,22 @@ module _ (most start count : ℕ) where
 
 -- ---- the call's refusals, one by one
 
+-- what is asked of a sample that opens, before what is asked of its run
+opening_first : (d f p k r : ℕ) → k ≡ opening_refusal d f p → (k ≡ 0 → ⊥)
+    → k ≡ cond (ltb d f) 7 (cond (ltb p d) 8 (cond (ltb most_fragments (fragments d f)) 9 r))
+opening_first d f p k r e z =
+    split (ltb d f) (λ x. e ∙ rw x refl)
+    (λ x.
+    split (ltb p d) (λ y. e ∙ rw (x, y) refl)
+    (λ y. split (ltb most_fragments (fragments d f)) (λ u. e ∙ rw (x, y, u) refl) (λ u. absurd (z (e ∙ rw (x, y, u) refl)))))
+
+opening_past : (d f p r : ℕ) → 0 ≡ opening_refusal d f p → r ≡ cond (ltb d f) 7 (cond (ltb p d) 8 (cond (ltb most_fragments (fragments d f)) 9 r))
+opening_past d f p r e =
+    split (ltb d f) (λ x. let k : 0 ≡ 7 = e ∙ rw x refl in absurd (omega arith))
+    (λ x.
+    split (ltb p d) (λ y. let k : 0 ≡ 8 = e ∙ rw (x, y) refl in absurd (omega arith))
+    (λ y. split (ltb most_fragments (fragments d f)) (λ u. let k : 0 ≡ 9 = e ∙ rw (x, y, u) refl in absurd (omega arith)) (λ u. rw (x, y, u) refl)))
+
 module _ (a : Assembler) (n : ℕ) (x : FragmentHead) where
   pub call_13 : n < place_count * a.place_size → 13 ≡ fragment_refusal a n x
   unfolding fragment_refusal
@@ -49,59 +91,71 @@ module _ (a : Assembler) (n : ℕ) (x : FragmentHead) where
     unfolding fragment_refusal
     call_4 e = rw (le-ltb n (place_count * a.place_size) h, eq-eqb x.number 0 e)
 
-    module _ (z : x.number ≡ 0 → ⊥) (t : x.number < top) where
+    module _ (z : 0 < x.number) (t : x.number < top) where
       pub call_6 : (x.fragment_size ≡ a.fragment_size → ⊥) → 6 ≡ fragment_refusal a n x
       unfolding fragment_refusal
-      call_6 e = rw (le-ltb n (place_count * a.place_size) h, ne_eqb x.number 0 z, lt-leb top x.number t, ne_eqb x.fragment_size a.fragment_size e)
+      call_6 e = rw (le-ltb n (place_count * a.place_size) h, ne_eqb x.number 0 (λ q. omega arith), lt-leb top x.number t, ne_eqb x.fragment_size a.fragment_size e)
 
       module _ (s : x.fragment_size ≡ a.fragment_size) where
-        pub call_known : find x.number a.places < length a.places
+        pub call_known : has_number a.places x.number ≡ true
             → run_refusal (fragments (place_at a.places (find x.number a.places)).size a.fragment_size) x.start x.count ≡ fragment_refusal a n x
-        unfolding fragment_refusal has_number
+        unfolding fragment_refusal
         call_known e =
-            rw (
-              le-ltb n (place_count * a.place_size) h,
-              ne_eqb x.number 0 z,
-              lt-leb top x.number t,
-              eq-eqb x.fragment_size a.fragment_size s,
-              lt-ltb (find x.number a.places) (length a.places) e,
-            )
+            rw (le-ltb n (place_count * a.place_size) h, ne_eqb x.number 0 (λ q. omega arith), lt-leb top x.number t, eq-eqb x.fragment_size a.fragment_size s, e)
 
-        module _ (e : length a.places ≤ find x.number a.places) where
+        module _ (e : has_number a.places x.number ≡ false) where
           -- what is left to ask of a call that opens
           opening : cond (ltb x.data_size a.fragment_size) 7
               (cond (ltb a.place_size x.data_size) 8
               (cond (ltb most_fragments (fragments x.data_size a.fragment_size)) 9
               (run_refusal (fragments x.data_size a.fragment_size) x.start x.count)))
               ≡ fragment_refusal a n x
-          unfolding fragment_refusal has_number
+          unfolding fragment_refusal
           opening =
-              rw (
-                le-ltb n (place_count * a.place_size) h,
-                ne_eqb x.number 0 z,
-                lt-leb top x.number t,
-                eq-eqb x.fragment_size a.fragment_size s,
-                le-ltb (find x.number a.places) (length a.places) e,
-              )
+              rw (le-ltb n (place_count * a.place_size) h, ne_eqb x.number 0 (λ q. omega arith), lt-leb top x.number t, eq-eqb x.fragment_size a.fragment_size s, e)
 
-          pub call_7 : x.data_size < a.fragment_size → 7 ≡ fragment_refusal a n x
-          call_7 l = subst (λ (k : ℕ). 7 ≡ k) opening (rw (lt-ltb x.data_size a.fragment_size l))
+          pub call_refuses : (k : ℕ) → k ≡ opening_refusal x.data_size a.fragment_size a.place_size → (k ≡ 0 → ⊥) → k ≡ fragment_refusal a n x
+          call_refuses k o q = opening_first x.data_size a.fragment_size a.place_size k _ o q ∙ opening
 
-          module _ (l : a.fragment_size ≤ x.data_size) where
-            pub call_8 : a.place_size < x.data_size → 8 ≡ fragment_refusal a n x
-            call_8 k = subst (λ (r : ℕ). 8 ≡ r) opening (rw (le-ltb x.data_size a.fragment_size l, lt-ltb a.place_size x.data_size k))
+          pub call_opens : 0 ≡ opening_refusal x.data_size a.fragment_size a.place_size
+              → run_refusal (fragments x.data_size a.fragment_size) x.start x.count ≡ fragment_refusal a n x
+          call_opens o = opening_past x.data_size a.fragment_size a.place_size _ o ∙ opening
 
-            module _ (k : x.data_size ≤ a.place_size) where
-              pub call_9 : most_fragments < fragments x.data_size a.fragment_size → 9 ≡ fragment_refusal a n x
-              call_9 m =
-                  subst (λ (r : ℕ). 9 ≡ r) opening
-                  (rw (le-ltb x.data_size a.fragment_size l, le-ltb a.place_size x.data_size k, lt-ltb most_fragments (fragments x.data_size a.fragment_size) m))
+-- ---- the same, as the code comes to them
 
-              pub call_opens : fragments x.data_size a.fragment_size ≤ most_fragments
-                  → run_refusal (fragments x.data_size a.fragment_size) x.start x.count ≡ fragment_refusal a n x
-              call_opens m =
-                  subst (λ (r : ℕ). run_refusal (fragments x.data_size a.fragment_size) x.start x.count ≡ r) opening
-                  (rw (le-ltb x.data_size a.fragment_size l, le-ltb a.place_size x.data_size k, le-ltb most_fragments (fragments x.data_size a.fragment_size) m))
+-- what was asked of a call before its number is sought
+pub record Asked (w : List ℕ) (long : ℕ) (x : FragmentHead) (n : ℕ) : Type 0 where
+  pub area : place_count * get_or w 1 0 ≤ long
+  pub low : 0 < n
+  pub high : n < top
+  pub number : n ≡ x.number
+  pub size : x.fragment_size ≡ get_or w 0 0
+
+module _ {w : List ℕ} {long : ℕ} {x : FragmentHead} {n : ℕ} (h : Asked w long x n) where
+  -- the number stands at k, whose row the code reads
+  pub asked_known : (k : ℕ) (rs : List (List ℕ)) (d : ℕ) → Some k ≡ found_place n (places_of w) → map place_of rs ≡ places_of w → length rs ≡ place_count
+      → d ≡ get_or (get_or rs k []) 1 0 → run_refusal (fragments d (get_or w 0 0)) x.start x.count ≡ fragment_refusal (assembler_of w) long x
+  asked_known k rs d e p l ed =
+      let s = found_some n (places_of w) k e in
+      let is : has_number (places_of w) x.number ≡ true = ap (has_number (places_of w)) (sym h.number) ∙ s.2 in
+      let q : d ≡ (place_at (places_of w) k).size = ed ∙ ap (λ (z : Place). z.size) (row_place rs (places_of w) k [] p (omega (arith, s.1, length_places w))) in
+      ap (λ (j : ℕ). run_refusal (fragments j (get_or w 0 0)) x.start x.count)
+      (q ∙ ap (λ (j : ℕ). (place_at (places_of w) j).size) (s.0 ∙ ap (λ (m : ℕ). find m (places_of w)) h.number))
+      ∙ call_known (assembler_of w) long x h.area (omega (arith, h.low, h.number)) (omega (arith, h.high, h.number)) h.size is
+
+  module _ (e : None ≡ found_place n (places_of w)) where
+    absent : has_number (places_of w) x.number ≡ false
+    absent = ap (has_number (places_of w)) (sym h.number) ∙ (found_none n (places_of w) e).1
+
+    pub asked_refuses : (r : Refusal) → number_of_refusal r ≡ opening_refusal x.data_size (get_or w 0 0) (get_or w 1 0) → number_of_refusal r ≡ fragment_refusal (assembler_of w) long x
+    asked_refuses r o =
+        call_refuses (assembler_of w) long x h.area (omega (arith, h.low, h.number)) (omega (arith, h.high, h.number)) h.size absent (number_of_refusal r) o (refusal_some r)
+
+    pub asked_opens : (d : ℕ) → d ≡ x.data_size → 0 ≡ opening_refusal x.data_size (get_or w 0 0) (get_or w 1 0)
+        → run_refusal (fragments d (get_or w 0 0)) x.start x.count ≡ fragment_refusal (assembler_of w) long x
+    asked_opens d ed o =
+        ap (λ (j : ℕ). run_refusal (fragments j (get_or w 0 0)) x.start x.count) ed
+        ∙ call_opens (assembler_of w) long x h.area (omega (arith, h.low, h.number)) (omega (arith, h.high, h.number)) h.size absent o
 
 -- ---- what an accepted call has passed
 
@@ -165,6 +219,13 @@ number_row (pos n) =
     ⊎_elim (λ b. rw (lt-ltb 0 n a, lt-ltb n top b, ne_eqb n 0 (λ z. omega arith), lt-leb top n b)) (λ b. rw (lt-ltb 0 n a, le-ltb n top b)) (split_lt n top))
     (λ a. rw (le-ltb 0 n a)) (split_lt 0 n)
 
--- a number as a call takes it is 0 or below the last
-pub number_taken : (n : ℤ) (k : ℕ) → SFits w64 n → k ≡ number_of (to_z w64 (of_z w64 n)) → (k ≡ number_of n) × (k < top)
-number_taken n k f e = (rw (to_z-of_z f) at e, ⊎_elim (λ z. omega (arith, z.0)) (λ z. z.1) (number_passed n k f e))
+-- the number of a call, and the same after it was passed on
+pub number_same : (n : ℤ) → SFits w64 n → number_of (to_z w64 (of_z w64 n)) ≡ number_of n
+number_same n f = ap number_of (to_z-of_z f)
+
+-- the number of a call as the code takes it, and where it takes none
+pub number_some : (n : ℤ) (k : ℕ) {o : Option ℕ} → SFits w64 n → o ≡ taken (to_z w64 (of_z w64 n)) → o ≡ Some k → (0 < k) × (k < top) × (k ≡ number_of n)
+number_some n k f e h = let t = some_taken n k (sym h ∙ (rw (to_z-of_z f) at e)) in (t.0, t.1, t.4)
+
+pub number_none : (n : ℤ) {o : Option ℕ} → SFits w64 n → o ≡ taken (to_z w64 (of_z w64 n)) → o ≡ None → 0 ≡ number_of n
+number_none n f e h = (none_taken n (sym h ∙ (rw (to_z-of_z f) at e))).1

@@ -2,7 +2,8 @@
 use Prim.Native.Nat.{ℕ, zero, suc, ◌*◌, ◌-◌, ◌≤◌, ◌<◌}
 use native.Mathlib.Omega.{arith}
 use mathlib.Core.Path.{◌≡◌, refl, sym, ap, subst, ◌∙◌}
-use mathlib.Core.Bool.{Bool}
+use mathlib.Core.Bool.{Bool, true, false}
+use mir.Val.{bool_byte}
 use mathlib.Core.Logic.{inl}
 use mathlib.Core.List.{List, ◌∷◌, ◌++◌}
 use lib.ListN.{length, set, take, drop, replicate, length-replicate}
@@ -11,17 +12,20 @@ use borrow.Author.Tests.{lt-ltb, le-ltb, eq-eqb, ne_eqb}
 use Rattle.assembly_record.specs.Sizes.{place_count, largest_place, row_size, assembler_size}
 use Rattle.outcome.specs.Lent.{over}
 use Rattle.outcome.specs.Outcome.{refused, done}
-use Rattle.outcome.specs.Answers.{set_up_said, set_up_reply}
+use Rattle.outcome.specs.Answers.{set_up_reply}
+use Rattle.outcome.specs.Refusal.{number_of_refusal, said}
 use Rattle.assembly_record.proofs.RulesLaws.{ok_good}
 use Rattle.assembly_record.proofs.TableLaws.{at_free}
+use Rattle.fragment_assembler.proofs.RefusalLaws.{refusal_some}
 use Rattle.fragment_assembler.specs.Promise.{SetsUpAssembler}
 use Rattle.assembly_record.specs.Rules.{AssemblerRules, GoodAssembler}
 use Rattle.fragment_assembler.specs.SetUp.{fresh_assembler, set_up_assembler, set_up_refusal}
 use Rattle.assembly_record.specs.State.{free_place, Place}
 use Rattle.assembly_record.specs.Table.{in_assembly}
 use Rattle.assembly_record.specs.Words.{table_of, bit, assembler_words}
-use Rattle.outcome.specs.declared.SetUp.{SetUp}
-use Rattle.outcome.specs.declared.SetUp.TheVariants.{Refused, Ready}
+use Rattle.std.specs.Prelude.{Result, Ok, Err}
+use Rattle.outcome.specs.declared.Refusal.{Refusal}
+use Rattle.outcome.specs.declared.Refusal.TheVariants.{ShortOutput, BadSetUp}
 
 -- ---- a fresh assembler
 
@@ -53,46 +57,51 @@ unfolding assembler_words
 empty_words f reliable p = ap (λ (l : List ℕ). f ∷ (p ∷ (bit reliable ∷ l))) (table_free place_count)
 
 -- the words that the code stores
-pub reset_words : (k f p m : ℕ) (z : List ℕ) → k ≡ assembler_size → z ≡ replicate k 0 → set (set (set z 0 f) 1 p) 2 m ≡ f ∷ (p ∷ (m ∷ replicate (row_size * place_count) 0))
-reset_words k f p m z e h = ap (λ (l : List ℕ). set (set (set l 0 f) 1 p) 2 m) (h ∙ ap (λ (j : ℕ). replicate j 0) e)
+pub reset_words : (k f p : ℕ) (b : Bool) (z : List ℕ) → k ≡ assembler_size → z ≡ replicate k 0
+    → set (set (set z 0 f) 1 p) 2 (bool_byte b) ≡ f ∷ (p ∷ (bit b ∷ replicate (row_size * place_count) 0))
+reset_words k f p b z e h = ap (λ (l : List ℕ). set (set (set l 0 f) 1 p) 2 (bool_byte b)) (h ∙ ap (λ (j : ℕ). replicate j 0) e) ∙ ap (λ (m : ℕ). f ∷ (p ∷ (m ∷ replicate (row_size * place_count) 0))) (byte_bit b)
+  where
+    byte_bit : (b : Bool) → bool_byte b ≡ bit b
+    byte_bit true = refl
+    byte_bit false = refl
 
 -- ---- the promise
 
 module _ (w : List ℕ) (f : ℕ) (reliable : Bool) (p : ℕ) where
-  refuses : (k : ℕ) → set_up_refusal f p (length w) ≡ k → (k ≡ 0 → ⊥) → SetsUpAssembler w f reliable p (Refused k) w
+  refuses : (r : Refusal) → set_up_refusal f p (length w) ≡ number_of_refusal r → SetsUpAssembler w f reliable p (Err r) w
   unfolding set_up_assembler
-  refuses k e z =
+  refuses r e =
       record {
         same =
-            rw (ne_eqb (set_up_refusal f p (length w)) 0 (λ x. z (sym e ∙ x))) (ap (λ (n : ℕ). set_up_reply (refused n) w) (sym e));
+            rw (ne_eqb (set_up_refusal f p (length w)) 0 (λ x. refusal_some r (sym e ∙ x))) (ap (λ (n : ℕ). set_up_reply (refused n) w) (sym e));
         good = λ x. let y : ◌≡◌ {A = ℕ} 0 1 = cc in absurd (omega arith);
       }
 
-  pub set_up_unit : f ≡ 0 → SetsUpAssembler w f reliable p (Refused 14) w
+  pub set_up_unit : f ≡ 0 → SetsUpAssembler w f reliable p (Err BadSetUp) w
   unfolding set_up_refusal
-  set_up_unit e = refuses 14 (rw (eq-eqb f 0 e)) (λ x. omega arith)
+  set_up_unit e = refuses BadSetUp (rw (eq-eqb f 0 e))
 
   module _ (u : f ≡ 0 → ⊥) where
-    pub set_up_none : p ≡ 0 → SetsUpAssembler w f reliable p (Refused 14) w
+    pub set_up_none : p ≡ 0 → SetsUpAssembler w f reliable p (Err BadSetUp) w
     unfolding set_up_refusal
-    set_up_none e = refuses 14 (rw (ne_eqb f 0 u, eq-eqb p 0 e)) (λ x. omega arith)
+    set_up_none e = refuses BadSetUp (rw (ne_eqb f 0 u, eq-eqb p 0 e))
 
     module _ (r : p ≡ 0 → ⊥) where
-      pub set_up_much : largest_place < p → SetsUpAssembler w f reliable p (Refused 14) w
+      pub set_up_much : largest_place < p → SetsUpAssembler w f reliable p (Err BadSetUp) w
       unfolding set_up_refusal
-      set_up_much l = refuses 14 (rw (ne_eqb f 0 u, ne_eqb p 0 r, lt-ltb largest_place p l)) (λ x. omega arith)
+      set_up_much l = refuses BadSetUp (rw (ne_eqb f 0 u, ne_eqb p 0 r, lt-ltb largest_place p l))
 
       module _ (l : p ≤ largest_place) where
-        pub set_up_short : length w < assembler_size → SetsUpAssembler w f reliable p (Refused 3) w
+        pub set_up_short : length w < assembler_size → SetsUpAssembler w f reliable p (Err ShortOutput) w
         unfolding set_up_refusal
-        set_up_short s = refuses 3 (rw (ne_eqb f 0 u, ne_eqb p 0 r, le-ltb largest_place p l, lt-ltb (length w) assembler_size s)) (λ x. omega arith)
+        set_up_short s = refuses ShortOutput (rw (ne_eqb f 0 u, ne_eqb p 0 r, le-ltb largest_place p l, lt-ltb (length w) assembler_size s))
 
-        pub set_up_done : (m : ℕ) (ys : List ℕ) → assembler_size ≤ length w → f < 65536 → m ≡ bit reliable → ys ≡ f ∷ (p ∷ (m ∷ replicate (row_size * place_count) 0))
-            → SetsUpAssembler w f reliable p Ready (take 0 w ++ (ys ++ drop (assembler_size - 0) (drop 0 w)))
+        pub set_up_done : (ys : List ℕ) → assembler_size ≤ length w → f < 65536 → ys ≡ f ∷ (p ∷ (bit reliable ∷ replicate (row_size * place_count) 0))
+            → SetsUpAssembler w f reliable p (Ok tt) (ys ++ drop assembler_size w)
         unfolding set_up_refusal set_up_assembler
-        set_up_done m ys s h em ey =
+        set_up_done ys s h ey =
             let q : set_up_refusal f p (length w) ≡ 0 = rw (ne_eqb f 0 u, ne_eqb p 0 r, le-ltb largest_place p l, le-ltb (length w) assembler_size s) in
-            let is : ys ≡ assembler_words (fresh_assembler f reliable p) = ey ∙ ap (λ (k : ℕ). f ∷ (p ∷ (k ∷ replicate (row_size * place_count) 0))) em ∙ empty_words f reliable p in
+            let is : ys ≡ assembler_words (fresh_assembler f reliable p) = ey ∙ empty_words f reliable p in
             let k : AssemblerRules (fresh_assembler f reliable p) = fresh_ok f reliable p (omega (arith, u)) h (omega (arith, r)) l in
             let long : length (assembler_words (fresh_assembler f reliable p)) ≡ assembler_size = (ok_good (fresh_assembler f reliable p) k).long in
             let whole : ys ++ drop assembler_size w ≡ over (assembler_words (fresh_assembler f reliable p)) w =
@@ -105,6 +114,6 @@ module _ (w : List ℕ) (f : ℕ) (reliable : Bool) (p : ℕ) where
             }
 
 -- set up in exactly 906 words: the words are the record
-pub set_up_record : (w : List ℕ) (f : ℕ) (reliable : Bool) (p : ℕ) (r : SetUp) (w' : List ℕ) → SetsUpAssembler w f reliable p r w' → length w' ≡ assembler_size
-    → set_up_said r ≡ done tt → GoodAssembler w'
+pub set_up_record : (w : List ℕ) (f : ℕ) (reliable : Bool) (p : ℕ) (r : Result (Unit {0}) Refusal) (w' : List ℕ) → SetsUpAssembler w f reliable p r w' → length w' ≡ assembler_size
+    → said r ≡ done tt → GoodAssembler w'
 set_up_record w f reliable p r w' h l e = subst GoodAssembler (take_all assembler_size w' (omega arith)) (h.good e)

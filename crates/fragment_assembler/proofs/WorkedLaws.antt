@@ -4,13 +4,13 @@ use native.Mathlib.Omega.{arith}
 use native.Mathlib.Nat.{mul-le-mul_right}
 use mathlib.Core.Path.{◌≡◌, ap, ◌∙◌}
 use mathlib.Core.Bool.{Bool}
-use mathlib.Core.List.{List}
+use mathlib.Core.List.{List, [], map}
 use lib.ListN.{length, get_or, set, length-set}
 use lib.Seq.{paste, get_or-set_same, get_or-set_other}
 use Rattle.fragment_assembler.proofs.CallLaws.{inside, run_start}
 use Rattle.assembly_record.proofs.FragmentsLaws.{fragment_starts}
 use Rattle.assembly_record.proofs.TableLaws.{find_hit, find_some}
-use Rattle.assembly_record.proofs.WordsLaws.{head_same, length_places, state_became}
+use Rattle.assembly_record.proofs.WordsLaws.{head_same, length_places, row_place, state_became}
 use Rattle.fragment_assembler.specs.Call.{end_at, run_work}
 use Rattle.assembly_record.specs.Table.{find}
 use Rattle.assembly_record.specs.Fragments.{brings}
@@ -18,7 +18,8 @@ use Rattle.assembly_record.specs.Rows.{Became, place_ran}
 use Rattle.fragment_assembler.specs.Inner.{Ends, Closes, RunAsks, Worked}
 use Rattle.fragment_assembler.specs.Fragment.{Run}
 use Rattle.assembly_record.specs.State.{place_at, Place, free_place, Assembler}
-use Rattle.assembly_record.specs.Words.{assembler_of, places_of}
+use Rattle.assembly_record.specs.Sizes.{place_count}
+use Rattle.assembly_record.specs.Words.{assembler_of, place_of, places_of}
 use Rattle.fragment_assembler.specs.declared.fragment.Answer.{Answer}
 use Rattle.fragment_assembler.proofs.EndsLaws.{ends_as, ends_then, end_over}
 
@@ -32,23 +33,25 @@ still_free ps i q h p =
     let s = find_some 0 (set ps i q) (find 0 ps) (omega (arith, length-set ps i q)) (ap (λ (x : Place). x.number) (get_or-set_other ps i (find 0 ps) q free_place ne) ∙ hit) in
     omega (arith, s, length-set ps i q)
 
-pub small_mul : (x y : ℕ) → x < 65536 → y < 65536 → x * y < 2 ^ 64
-small_mul x y hx hy =
-    let g : x ≤ 65536 = omega arith in
-    omega (arith, mul-le-mul_right y g)
-
-module _ (w : List ℕ) (n seat : ℕ) (o : Bool) (x : Run) (h : RunAsks w n seat o x) where
-  pub run_off : (x.start - 1) * get_or w 0 0 ≤ (place_at (places_of w) seat).size
+module _ {w : List ℕ} {n seat : ℕ} {o : Bool} {x : Run} (h : RunAsks w n seat o x) where
+  run_off : (x.start - 1) * get_or w 0 0 ≤ (place_at (places_of w) seat).size
   run_off = omega (arith, fragment_starts (place_at (places_of w) seat).size (get_or w 0 0) (x.start - 1) h.some (omega (arith, h.ok.some, h.ok.fits)))
 
-  pub run_room : seat * get_or w 1 0 + (place_at (places_of w) seat).size ≤ n
+  run_room : seat * get_or w 1 0 + (place_at (places_of w) seat).size ≤ n
   run_room = inside (get_or w 1 0) seat n (place_at (places_of w) seat).size h.within h.sample.most h.long
 
-  -- the code's count of the bytes that the run brings
-  pub run_brings : (b m d : ℕ) → d ≡ (place_at (places_of w) seat).size → m ≡ min (length x.payload) (d - (x.start - 1) * get_or w 0 0)
-      → b ≡ min (x.count * get_or w 0 0) m → b ≡ brings (place_at (places_of w) seat).size (get_or w 0 0) x.start x.count x.payload
-  run_brings b m d e f g =
-      g ∙ ap (min (x.count * get_or w 0 0)) (f ∙ ap (λ (k : ℕ). min (length x.payload) (k - (x.start - 1) * get_or w 0 0)) e)
+  -- the rows that the code reads
+  module _ (rs : List (List ℕ)) (e : map place_of rs ≡ places_of w) (l : length rs ≡ place_count) where
+    run_size : get_or (get_or rs seat []) 1 0 ≡ (place_at (places_of w) seat).size
+    run_size = ap (λ (p : Place). p.size) (row_place rs (places_of w) seat [] e (omega (arith, h.within)))
+
+    pub run_under : (x.start - 1) * get_or w 0 0 ≤ get_or (get_or rs seat []) 1 0
+    run_under = omega (arith, run_off, run_size)
+
+    -- the code's count of the bytes that the run brings
+    pub run_brings : (b m : ℕ) → m ≡ min (length x.payload) (get_or (get_or rs seat []) 1 0 - (x.start - 1) * get_or w 0 0) → b ≡ min (x.count * get_or w 0 0) m
+        → b ≡ brings (place_at (places_of w) seat).size (get_or w 0 0) x.start x.count x.payload
+    run_brings b m f g = g ∙ ap (min (x.count * get_or w 0 0)) (f ∙ ap (λ (k : ℕ). min (length x.payload) (k - (x.start - 1) * get_or w 0 0)) run_size)
 
   pub run_end : (b : ℕ) → b ≡ brings (place_at (places_of w) seat).size (get_or w 0 0) x.start x.count x.payload
       → ((seat * get_or w 1 0 + (x.start - 1) * get_or w 0 0) + b ≤ n) × (b ≤ length x.payload)

@@ -1,10 +1,12 @@
 -- A fragment call as a function of the state, the lent area and what is passed (document 01, "The assembler"). Assumes nothing.
-use Rattle.std.specs.Prelude.{ℕ, ◌+◌, ◌*◌, ◌-◌, Bool, cond, List, length, set, replicate, eqb}
+use Rattle.std.specs.Prelude.{ℕ, ◌+◌, ◌*◌, ◌-◌, Bool, cond, List, length, set, replicate, eqb, Result}
 use Rattle.std.proofs.Math.Seq.{paste}
 use Rattle.assembly_record.specs.Sizes.{place_count, mark_words}
-use Rattle.outcome.specs.Outcome.{Outcome, refused, done}
+use Rattle.outcome.specs.Outcome.{Outcome, refused, done, found}
+use Rattle.outcome.specs.Refusal.{said}
+use Rattle.outcome.specs.declared.Refusal.{Refusal}
 use Rattle.fragment_assembler.specs.declared.fragment.Answer.{Answer}
-use Rattle.fragment_assembler.specs.declared.fragment.Answer.TheVariants.{Refused, Kept, Returned, Dropped}
+use Rattle.fragment_assembler.specs.declared.fragment.Answer.TheVariants.{Kept, Returned, Dropped}
 use Rattle.assembly_record.specs.State.{Place, Assembler, free_place, place_at, with_places}
 use Rattle.assembly_record.specs.Table.{find, has_number, in_assembly, victim}
 use Rattle.assembly_record.specs.Marks.{mark_run}
@@ -19,11 +21,14 @@ pub data Fate : Type 0 where
   dropped : ℕ → Fate
 
 -- what an answer says
-abbrev pub fragment_said : Answer → Outcome Fate
-fragment_said (Refused n) = refused n
-fragment_said Kept = done kept
-fragment_said (Returned n i d) = done (returned n i d)
-fragment_said (Dropped n) = done (dropped n)
+abbrev pub fate_of : Answer → Fate
+fate_of Kept = kept
+fate_of (Returned n i d) = returned n i d
+fate_of (Dropped n) = dropped n
+
+-- what a call's result says
+abbrev pub fragment_said : Result Answer Refusal → Outcome Fate
+fragment_said r = found fate_of (said r)
 
 -- the place that a call works on, where it lies, and the area
 pub record Work : Type 0 where

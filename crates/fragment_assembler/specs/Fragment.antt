@@ -1,5 +1,6 @@
 -- What a fragment call passes, and the parts of it that its steps read. Assumes nothing.
 use Rattle.std.specs.Prelude.{ℕ, List, length}
+use Rattle.fragment_assembler.specs.declared.fragment.DataFrag.{DataFrag}
 
 -- The time, the number (`number_of`: 0 for one that row 4 refuses), the fragment's size, the data size, the run's start k and its count n, and the
 -- payload.
@@ -15,6 +16,10 @@ pub record Fragment : Type 0 where
 abbrev pub fragment_with : ℕ → ℕ → ℕ → ℕ → ℕ → ℕ → List ℕ → Fragment
 fragment_with time number fragment_size data_size start count payload =
     record { time = time; number = number; fragment_size = fragment_size; data_size = data_size; start = start; count = count; payload = payload }
+
+-- the fragment of a call: the time, the number, and what the message brings
+abbrev pub fragment_of : ℕ → ℕ → DataFrag → Fragment
+fragment_of time number f = fragment_with time number f.fragment_size f.data_size f.start f.count f.payload.now
 
 -- what the refusals read: neither the time nor a byte of the payload, of which they know the length
 pub record FragmentHead : Type 0 where

@@ -1,16 +1,29 @@
 -- What the functions below the public calls ask and promise of the words. No public promise cites these. Assumes nothing.
-use Rattle.std.specs.Prelude.{ℕ, ◌+◌, ◌*◌, ◌-◌, ◌<◌, ◌≤◌, ◌≡◌, Bool, false, List, length, get_or}
+use Rattle.std.specs.Prelude.{ℕ, ◌+◌, ◌*◌, ◌-◌, ◌<◌, ◌≤◌, ◌≡◌, Bool, false, cond, List, length, get_or, ltb, Option, Some, None}
 use Rattle.assembly_record.specs.Sizes.{place_count, largest_place, most_fragments, assembler_size}
-use Rattle.outcome.specs.Outcome.{done}
 use Rattle.fragment_assembler.specs.declared.fragment.Answer.{Answer}
 use Rattle.assembly_record.specs.Rows.{Became}
-use Rattle.assembly_record.specs.State.{Place, place_at}
-use Rattle.assembly_record.specs.Table.{find}
+use Rattle.assembly_record.specs.State.{Place, Assembler, place_at}
+use Rattle.assembly_record.specs.Table.{find, found_place, is_partially_received}
 use Rattle.assembly_record.specs.Fragments.{fragments}
-use Rattle.fragment_assembler.specs.Fragment.{Run}
-use Rattle.fragment_assembler.specs.Call.{Work, Ending, fragment_said, run_work, finish_work}
+use Rattle.fragment_assembler.specs.Fragment.{Fragment, head_of, Run}
+use Rattle.fragment_assembler.specs.Refusal.{fragment_refusal}
+use Rattle.fragment_assembler.specs.Call.{Work, Ending, fate_of, run_work, finish_work}
+use Rattle.fragment_assembler.specs.View.{is_shown}
 use Rattle.assembly_record.specs.Words.{places_of, assembler_of}
-use Rattle.assembly_record.specs.Rules.{Sample}
+use Rattle.assembly_record.specs.Rules.{Sample, GoodAssembler}
+
+-- the place of a number that is in assembly
+abbrev pub place_of_number : List Place → ℕ → Option ℕ
+place_of_number ps n = cond (is_partially_received ps n) (Some (find n ps)) None
+
+-- where a part begins that is shown
+abbrev pub shown_from : Assembler → ℕ → ℕ → ℕ → Option ℕ
+shown_from a long i n = cond (is_shown a long i n) (Some (i * a.place_size)) None
+
+-- 7, 8 and 9 of a sample that opens with d bytes; 0 where none holds
+abbrev pub opening_refusal : ℕ → ℕ → ℕ → ℕ
+opening_refusal d f p = cond (ltb d f) 7 (cond (ltb p d) 8 (cond (ltb most_fragments (fragments d f)) 9 0))
 
 abbrev pub work_of : ℕ → Place → List ℕ → Work
 work_of i p area = record { seat = i; place = p; area = area }
@@ -23,7 +36,7 @@ pub record RunOk (d f first count : ℕ) : Type 0 where
 
 -- the end of a call: the answer said, and the places that it left
 pub record Ends (w : List ℕ) (s : Ending) (r : Answer) (w' : List ℕ) : Type 0 where
-  pub answer : fragment_said r ≡ done s.answer
+  pub answer : fate_of r ≡ s.answer
   pub became : Became w s.places w'
 
 -- what the end of a call asks of the place that it worked on
@@ -52,3 +65,9 @@ pub record RunAsks (w : List ℕ) (n seat : ℕ) (opened : Bool) (x : Run) : Typ
 pub record Worked (w before : List ℕ) (seat : ℕ) (x : Run) (r : Answer) (w' after : List ℕ) : Type 0 where
   pub ends : Ends w (finish_work (assembler_of w) (run_work (assembler_of w) x (work_of seat (place_at (places_of w) seat) before))) r w'
   pub area : after ≡ (run_work (assembler_of w) x (work_of seat (place_at (places_of w) seat) before)).area
+
+-- what is asked of a call that the rows let pass: `at` is where its number stands
+pub record Admitted (w area : List ℕ) (c : Fragment) (at : Option ℕ) : Type 0 where
+  pub good : GoodAssembler w
+  pub passed : fragment_refusal (assembler_of w) (length area) (head_of c) ≡ 0
+  pub place : at ≡ found_place c.number (places_of w)

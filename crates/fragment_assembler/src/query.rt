@@ -2,24 +2,28 @@
 ghost use Rattle.std.specs.Prelude.{◌≡◌};
 ghost use Rattle.sequence_number.specs.Number.{number_of};
 ghost use Rattle.assembly_record.specs.Table.{is_partially_received, in_assembly};
-ghost use Rattle.assembly_record.specs.Words.{assembler_of};
+ghost use Rattle.assembly_record.specs.Words.{places_of, assembler_of};
 ghost use Rattle.assembly_record.specs.Rules.{GoodAssembler};
+ghost use Rattle.fragment_assembler.specs.Inner.{place_of_number};
 
-use assembly_record::layout::{PLACES, ROW, TABLE};
-use assembly_record::table::seek;
+use assembly_record::layout::NUMBER;
+use assembly_record::table::{rows, seek};
 use sequence_number::number::number_of;
+
+// The place of a number that is in assembly.
+pub(crate) fn place(t: &[u64], number: i64) -> Option<usize>
+    requires { GoodAssembler t.now }
+    ensures { result ≡ place_of_number (places_of t.now) (number_of number) }
+{
+    seek(t, number_of(number)?)
+}
 
 // Whether a number is in assembly: the definition `is_partially_received`.
 pub fn is_partially_received(t: &[u64], number: i64) -> bool
     requires { GoodAssembler t.now }
     ensures { result ≡ is_partially_received (assembler_of t.now).places (number_of number) }
 {
-    let n = number_of(number);
-    if n == 0 {
-        return false;
-    }
-    let at = seek(t, n);
-    at < PLACES
+    place(t, number).is_some()
 }
 
 // How many numbers are in assembly: the definition `in_assembly`, not `is_partially_received`, which asks of one number.
@@ -27,13 +31,5 @@ pub fn in_assembly(t: &[u64]) -> usize
     requires { GoodAssembler t.now }
     ensures { result ≡ in_assembly (assembler_of t.now).places }
 {
-    let mut i = PLACES;
-    let mut n = 0;
-    while 0 < i {
-        i -= 1;
-        if 0 < t[TABLE + ROW * i] {
-            n += 1;
-        }
-    }
-    n
+    rows(t).iter().filter(|row| 0 < row[NUMBER]).count()
 }

@@ -2,20 +2,19 @@
 ghost use Rattle.std.specs.Prelude.{◌≡◌};
 ghost use Rattle.assembly_record.specs.Words.{assembler_of};
 ghost use Rattle.assembly_record.specs.Rules.{GoodAssembler};
-ghost use Rattle.fragment_assembler.specs.View.{viewed, is_shown, view_start};
+ghost use Rattle.fragment_assembler.specs.View.{viewed, view_start};
+ghost use Rattle.fragment_assembler.specs.Inner.{shown_from};
 
 use assembly_record::layout::PLACE_SIZE;
 
-// Whether a part of so many bytes from a place on ends within an area of `long` bytes. The quotient keeps place times p inside the word.
-fn is_shown(t: &[u64], long: usize, place: usize, length: usize) -> bool
+// Where a part of so many bytes from a place on begins, if it ends within an area of `long` bytes.
+fn shown_from(t: &[u64], long: usize, place: usize, length: usize) -> Option<usize>
     requires { GoodAssembler t.now }
-    ensures { result ≡ is_shown (assembler_of t.now) long place length }
+    ensures { result ≡ shown_from (assembler_of t.now) long place length }
 {
-    let p = t[PLACE_SIZE] as usize;
-    if long / p < place {
-        return false;
-    }
-    length <= long - place * p
+    let at = place.checked_mul(t[PLACE_SIZE] as usize)?;
+    let end = at.checked_add(length)?;
+    if end <= long { Some(at) } else { None }
 }
 
 // A returned sample, as a part of the lent area; the empty part where it would pass the area's end.
@@ -23,12 +22,10 @@ pub fn view<'a>(t: &[u64], area: &'a [u8], place: usize, length: usize) -> &'a [
     requires { GoodAssembler t.now }
     ensures { result.now ≡ viewed (assembler_of t.now) area.now place length }
 {
-    if !is_shown(t, area.len(), place, length) {
-        return &area[0..0];
+    match shown_from(t, area.len(), place, length) {
+        Some(at) => &area[at..at + length],
+        None => &area[..0],
     }
-    let at = place * t[PLACE_SIZE] as usize;
-    let end = at + length;
-    &area[at..end]
 }
 
 // Where the part that `view` shows begins in an area of `long` bytes; 0 where it would pass the area's end.
@@ -36,8 +33,5 @@ pub fn view_start(t: &[u64], long: usize, place: usize, length: usize) -> usize
     requires { GoodAssembler t.now }
     ensures { result ≡ view_start (assembler_of t.now) long place length }
 {
-    if !is_shown(t, long, place, length) {
-        return 0;
-    }
-    place * t[PLACE_SIZE] as usize
+    shown_from(t, long, place, length).unwrap_or(0)
 }

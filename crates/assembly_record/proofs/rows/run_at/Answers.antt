@@ -9,4 +9,4 @@ pub returns : goal.returns
 returns c =
     let a = c.args in
     lent_as a.t.now a.seat c.requires.1.0 c.run_row.new.row _ c.requires.0 c.run_row.auto.row
-    (c.run_row.ensures ∙ ap (λ (p : Place). place_ran p a.number a.time a.k a.n) (row_is a.t.now a.seat c.requires.1.0))
+    (c.run_row.ensures ∙ ap (λ (p : Place). place_ran p a.run.number a.run.time a.run.first a.run.count) (row_is a.t.now a.seat c.requires.1.0))
