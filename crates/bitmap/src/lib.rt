@@ -26,7 +26,7 @@ fn with_mask(w: u32, i: u32) -> u32
     w | (1 << (31 - i % 32))
 }
 
-// The words of the list's members, by their distance from low, below count.
+// The words of the list's members, by their distance from low, below count. The count stays a number with its bound, as a set has it.
 pub fn mark<N: Number>(list: &[N], low: N, count: u32) -> [u32; 8]
     requires count_bound { count ≤ 256 }
     ensures { result ≡ set_bits (N.kind.apart low) count zero_words list.now }
@@ -35,8 +35,9 @@ pub fn mark<N: Number>(list: &[N], low: N, count: u32) -> [u32; 8]
     for x in list {
         let i = low.apart(*x);
         if i < count as u64 {
+            let i = i as u32;
             let k = (i / 32) as usize;
-            words[k] = with_mask(words[k], i as u32);
+            words[k] = with_mask(words[k], i);
         }
     }
     words

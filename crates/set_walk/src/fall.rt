@@ -18,6 +18,7 @@ fn fall_word<N: Number>(base: N, from: u32, word: u32, out: &mut [N], place: usi
     let mut n = place;
     let mut w = word;
     let mut i = from + 32;
+    // By what is left of the word and not by an index: it ends at the last member.
     while w != 0 {
         i -= 1;
         if w % 2 == 1 {
@@ -37,7 +38,7 @@ pub fn fall<N: Number>(base: N, words: [u32; 8], count: u32, out: &mut [N]) -> u
     ensures value { result ≡ length (positions words count) }
     ensures out_after { out.new ≡ sets out.old 0 (map (N.kind.plus base) (reverse (positions words count))) }
 {
-    let end = (count + 31) / 32;
+    let end = count.div_ceil(32);
     let mut n: usize = 0;
     for k in (0..end).rev() {
         let w = first_bits(words[k as usize], count - 32 * k);

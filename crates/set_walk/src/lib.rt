@@ -1,4 +1,5 @@
 // The members of a set of at most 256 bits to a lent list, all of which fit their type and the list.
+// The count stays a number with that bound beside it: a set may have any count, and the calls above refuse one that is larger.
 #![tactic(auto)]
 
 pub mod fall;

@@ -29,6 +29,7 @@ fn rise_rest<N: Number>(base: N, from: u32, word: u32, out: &mut [N], place: usi
     let mut n = place;
     let mut w = word;
     let mut i = from;
+    // By what is left of the word and not by an index: it ends at the last member.
     while w != 0 {
         n = step(base, i, w, out, n);
         w <<= 1;
@@ -48,6 +49,7 @@ fn rise_word<N: Number>(base: N, from: u32, word: u32, out: &mut [N], place: usi
     let mut n = place;
     let mut w = word;
     let mut i = from;
+    // By what is left of the word, as above.
     while w << 4 != 0 {
         n = step(base, i, w, out, n);
         n = step(base, i + 1, w << 1, out, n);
@@ -67,7 +69,7 @@ pub fn rise<N: Number>(base: N, words: [u32; 8], count: u32, out: &mut [N]) -> u
     ensures value { result ≡ length (positions words count) }
     ensures out_after { out.new ≡ sets out.old 0 (map (N.kind.plus base) (positions words count)) }
 {
-    let end = (count + 31) / 32;
+    let end = count.div_ceil(32);
     let mut n: usize = 0;
     for k in 0..end {
         let w = first_bits(words[k as usize], count - 32 * k);
