@@ -78,18 +78,30 @@ def signature(head):
     return ""
 
 
+def impl_name(own, trait, of):
+    """What the check calls an impl: a type's own by the type; a trait's by the words of the type, the trait and its
+    arguments, without the impl's own parameters."""
+    if not trait:
+        return re.match(r"&?(\w+)", of).group(1)
+    own = re.findall(r"[<,]\s*(?:const\s+)?(\w+)", own or "")
+    trait = trait.partition("<")
+    words = re.findall(r"&|\w+", of) + [trait[0].split("::")[-1]] + re.findall(r"&|\w+", trait[2])
+    return "".join("Ref" if w == "&" else w[0].upper() + w[1:] for w in words if w not in own)
+
+
 def functions_of(crate, file, text):
     found, owner, owner_end, head = [], None, -1, None
-    skip = re.compile(r"//[^\n]*|\bimpl(?:<[^{;]*?>)?\s+(\w+)(?:<[^{;]*?>)?\s*\{|\bfn\s+(\w+)")
+    skip = re.compile(r"//[^\n]*|\bimpl(<[^{;]*?>)?\s+(?:([\w:]+(?:<[^{;]*?>)?)\s+for\s+)?(&?\w+(?:<[^{;]*?>)?)\s*\{|\bfn\s+(\w+)")
     at = 0
     while True:
         m = skip.search(text, at)
         if not m:
             return found
         at = m.end()
-        if m.group(1):
-            owner, owner_end, head = m.group(1), closing(text, m.end() - 1), m.group()[:-1].rstrip()
-        elif m.group(2):
+        if m.group(3):
+            owner, owner_end = impl_name(*m.group(1, 2, 3)), closing(text, m.end() - 1)
+            head = None if m.group(2) else m.group()[:-1].rstrip()
+        elif m.group(4):
             # contracts stand between the signature and the body
             i = m.end()
             depth = 0
@@ -103,13 +115,16 @@ def functions_of(crate, file, text):
                     w = re.compile(r"(requires|ensures)(?:\s+\w+)?\s*\{").match(text, i)
                     if w:
                         i = closing(text, w.end() - 1)
-                    elif c == "{":
+                    elif c in "{;":
                         break
                 i += 1
+            if text[i] == ";":
+                at = i  # a trait's method without a body
+                continue
             end = closing(text, i) + 1
             inside = m.start() < owner_end
-            found.append(Function(crate, file, m.group(2), owner if inside else None, text, m.start(), i, end))
-            found[-1].head = head if inside else None  # `impl<N: Number> NumberSet<N>`
+            found.append(Function(crate, file, m.group(4), owner if inside else None, text, m.start(), i, end))
+            found[-1].head = head if inside else None  # `impl<N: Number> NumberSet<N>`; None for a trait's, which has no second one
             at = end
 
 

@@ -159,6 +159,7 @@ class Sweep:
         total, functions = sum(len(q) for q in queue.values()), sum(1 for q in queue.values() if q)
         self.width = max(TOGETHER, min(functions, 3 * TOGETHER))
         long_ = [l for l in queue if 2 * len(queue[l]) * self.width > 3 * total and len(queue[l]) > 3]
+        long_ = [l for l in long_ if self.by_label[l].head or not self.by_label[l].owner]  # no twin in a trait's impl
         self.twinned = set()
         if long_:
             said = self.check(self.edited({l + "#1": None for l in long_}))
