@@ -4,7 +4,7 @@ use native.Mathlib.Omega.{arith}
 use mathlib.Core.Logic.{◌⊎◌, inl, inr, ⊎_elim}
 use mathlib.Core.Path.{◌≡◌, refl, sym, ap, ◌∙◌}
 use mathlib.Core.Bool.{true}
-use Rattle.std.specs.Prelude.{Option, None, Some, is_some}
+use Rattle.std.specs.Prelude.{Option, None, Some, is_some, option_map}
 use mathlib.Core.List.{List}
 use lib.ListN.{length, get_or}
 use lib.Dec.{ltb}
@@ -21,15 +21,15 @@ use Rattle.proxy_record.specs.Rows.{blank_entry, rank}
 use Rattle.proxy_record.proofs.LookLaws.{is_tracked_lem, look_low, rank_next}
 use Rattle.writer_proxy.specs.Queries.{ignored, status_of, last_received}
 
--- `status_of`: the number's place is `at`
+-- `find`: the number's place is `at`
 module _ (w : List ℕ) (g : GoodProxy w) (n at : ℕ) (p : at ≡ rank n (tracked_in w)) where
-  pub status_some : (x : ℕ) (m : Mark) → at < get_or w 1 0 → x ≡ number_in (get_or (tracked_in w) at blank_entry) → x ≡ n
-      → m ≡ (get_or (tracked_in w) at blank_entry).mark → Some m ≡ look n (tracked_in w)
-  status_some x m h e f i =
+  pub status_some : (x : ℕ) → at < get_or w 1 0 → x ≡ number_in (get_or (tracked_in w) at blank_entry) → x ≡ n
+      → Some (get_or (tracked_in w) at blank_entry).mark ≡ look n (tracked_in w)
+  status_some x h e f =
       let a : (get_or (tracked_in w) (rank n (tracked_in w)) blank_entry).number ≡ n = rw (← p) (sym e ∙ f) in
       let b : rank n (tracked_in w) < length (tracked_in w) = omega (arith, g.count) in
       ⊎_elim
-      (λ v. rw (i, p) (sym v.0))
+      (λ v. rw p (sym v.0))
       (λ v. absurd (v.2 b a))
       (rank_next (proxy_of w).base top n (tracked_in w) g.ok.rising)
 
@@ -71,8 +71,12 @@ last_some s n t e f h =
     let k : s.last ≡ 0 → ⊥ = λ z. h (e ∙ z) in
     rw (ne_eqb s.last 0 k, e, f)
 
--- `should_ignore_change`, past the base: r is what `status_of` answered
-pub ignored_by : (m : ℕ) (n : ℤ) (k : ℕ) (s : Proxy) (r : Option Mark) → ProxyRules m s → k ≡ nat_of n → s.base ≤ k → r ≡ look k s.tracked
+-- `should_ignore_change`, past the base: r is what `find` answered
+pub ignored_by : (m : ℕ) (n : ℤ) (k : ℕ) (s : Proxy) (r : Option ℕ) (f : ℕ → Mark) → ProxyRules m s → k ≡ nat_of n → s.base ≤ k → option_map f r ≡ look k s.tracked
     → is_some r ≡ ignored n s
-ignored_by m n k s r o e h q =
-    ap is_some q ∙ ap (λ (i : ℕ). is_tracked i s.tracked) e ∙ ignored_else m n s o (omega arith)
+ignored_by m n k s r f o e h q =
+    given r ∙ ap is_some q ∙ ap (λ (i : ℕ). is_tracked i s.tracked) e ∙ ignored_else m n s o (omega arith)
+  where
+    given : (r : Option ℕ) → is_some r ≡ is_some (option_map f r)
+    given None = refl
+    given (Some x) = refl

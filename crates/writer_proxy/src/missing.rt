@@ -33,12 +33,13 @@ fn list_missing(t: &[u64], lo: u64, hi: u64, out: &mut [i64])
     for n in lo..hi {
         if i < len && rows::number_at(t, i) == n {
             i += 1;
-        } else if w < out.len() {
-            out[w] = n as i64;
-            w += 1;
-        } else {
+            continue;
+        }
+        if w == out.len() {
             return;
         }
+        out[w] = n as i64;
+        w += 1;
     }
 }
 

@@ -1,8 +1,9 @@
 // What a proxy shows. No query changes it, and none is refused.
-ghost use Rattle.std.specs.Prelude.{◌≡◌};
+ghost use Rattle.std.specs.Prelude.{◌≡◌, ◌<◌, length, get_or, IfSome, option_map};
 ghost use Rattle.proxy_record.specs.Rules.{GoodProxy};
 ghost use Rattle.proxy_record.specs.Words.{proxy_of, tracked_in};
 ghost use Rattle.proxy_record.specs.Entries.{look};
+ghost use Rattle.proxy_record.specs.Rows.{blank_entry};
 ghost use Rattle.writer_proxy.specs.Queries.{status_of, ignored, last_received};
 
 use proxy_record::layout::{BASE, COUNT, LAST, TIME};
@@ -28,13 +29,15 @@ pub fn last_received(t: &[u64]) -> Option<(u64, u64)>
     Some((t[LAST], t[TIME]))
 }
 
-fn status_of(t: &[u64], n: u64) -> Option<Mark>
+// The place of a number's entry, or nothing where it is not tracked.
+fn find(t: &[u64], n: u64) -> Option<usize>
     requires { GoodProxy t.now }
-    ensures { result ≡ look n (tracked_in t.now) }
+    ensures within { IfSome result (λ at. at < length (tracked_in t.now)) }
+    ensures shown { option_map (λ at. (get_or (tracked_in t.now) at blank_entry).mark) result ≡ look n (tracked_in t.now) }
 {
     let at = rows::place(t, n);
     if at < t[COUNT] as usize && rows::number_at(t, at) == n {
-        return Some(rows::mark_at(t, at));
+        return Some(at);
     }
     None
 }
@@ -44,7 +47,8 @@ pub fn change_status(t: &[u64], number: i64) -> Option<Mark>
     requires { GoodProxy t.now }
     ensures { result ≡ status_of number (proxy_of t.now) }
 {
-    status_of(t, natural(number))
+    let at = find(t, natural(number))?;
+    Some(rows::mark_at(t, at))
 }
 
 // Whether a number is below the base or tracked.
@@ -53,5 +57,5 @@ pub fn should_ignore_change(t: &[u64], number: i64) -> bool
     ensures { result ≡ ignored number (proxy_of t.now) }
 {
     let n = natural(number);
-    n < t[BASE] || status_of(t, n).is_some()
+    n < t[BASE] || find(t, n).is_some()
 }

@@ -19,4 +19,4 @@ pub returns-else-n-t : goal.returns-else-n-t
 returns-else-n-t c =
     let k = nat_passed c.args.number _ c.ranges.number c.natural-n.ensures in
     c.is_some.ensures
-    ∙ ignored_by cap c.args.number _ (proxy_of c.args.t.now) c.status_of.result c.requires.ok k (omega (arith, c.if-n-t.false, base_word cap _ (omega arith) c.requires)) c.status_of.ensures
+    ∙ ignored_by cap c.args.number _ (proxy_of c.args.t.now) c.find.result _ c.requires.ok k (omega (arith, c.if-n-t.false, base_word cap _ (omega arith) c.requires)) c.find.ensures.shown
