@@ -20,29 +20,30 @@ use Rattle.outcome.specs.Outcome.{is_refused}
 use Rattle.fragment_assembler.specs.View.{viewed}
 use Rattle.assembly_record.specs.Words.{assembler_of}
 use Rattle.fragment_assembler.specs.declared.fragment.Answer.{Answer}
-use Rattle.fragment_assembler.specs.declared.clean.Cleaned.{Cleaned}
+use Rattle.std.specs.Prelude.{Result}
+use Rattle.outcome.specs.declared.Refusal.{Refusal}
 use Rattle.no_starvation.specs.Starve as starve
 
 -- ---- a call's step is the statement's
 
-does_after : (w area : List ℕ) (c : Fragment) (r : Answer) (w' area' : List ℕ) → TakesFragment w area c r w' area'
+does_after : (w area : List ℕ) (c : Fragment) (r : Result Answer Refusal) (w' area' : List ℕ) → TakesFragment w area c r w' area'
     → moment_after (moment (assembler_of w) area) (arrives c) ≡ moment (assembler_of w') area'
 does_after w area c r w' area' h = ap (λ (o : FragmentReply). moment o.state o.area) (sym h.same)
 
-does_said : (w area : List ℕ) (c : Fragment) (r : Answer) (w' area' : List ℕ) → TakesFragment w area c r w' area'
+does_said : (w area : List ℕ) (c : Fragment) (r : Result Answer Refusal) (w' area' : List ℕ) → TakesFragment w area c r w' area'
     → answer_of (moment (assembler_of w) area) (arrives c) ≡ fragment_said r
 does_said w area c r w' area' h = ap (λ (o : FragmentReply). o.answer) (sym h.same)
 
-cleans_after : (w area : List ℕ) (cutoff : ℕ) (out : List ℤ) (r : Cleaned) (w' : List ℕ) (out' : List ℤ) → CleansAssembler w cutoff out r w' out'
+cleans_after : (w area : List ℕ) (cutoff : ℕ) (out : List ℤ) (r : Result ℕ Refusal) (w' : List ℕ) (out' : List ℤ) → CleansAssembler w cutoff out r w' out'
     → moment_after (moment (assembler_of w) area) (cleans cutoff out) ≡ moment (assembler_of w') area
 cleans_after w area cutoff out r w' out' h = ap (λ (o : CleanReply). moment o.state area) (sym h.same)
 
 -- accepted or refused is what the answer shows
-accepted_shows : (w area : List ℕ) (c : Fragment) (r : Answer) (w' area' : List ℕ) → TakesFragment w area c r w' area' → is_refused (fragment_said r) ≡ false
+accepted_shows : (w area : List ℕ) (c : Fragment) (r : Result Answer Refusal) (w' area' : List ℕ) → TakesFragment w area c r w' area' → is_refused (fragment_said r) ≡ false
     → fragment_refusal (assembler_of w) (length area) (head_of c) ≡ 0
 accepted_shows w area c r w' area' d e = eqb-true _ _ (not-false _ (sym (does_is_refused w area c r w' area' d) ∙ e))
 
-refused_shows : (w area : List ℕ) (c : Fragment) (r : Answer) (w' area' : List ℕ) → TakesFragment w area c r w' area' → is_refused (fragment_said r) ≡ true
+refused_shows : (w area : List ℕ) (c : Fragment) (r : Result Answer Refusal) (w' area' : List ℕ) → TakesFragment w area c r w' area' → is_refused (fragment_said r) ≡ true
     → fragment_refusal (assembler_of w) (length area) (head_of c) ≡ 0 → ⊥
 refused_shows w area c r w' area' d e = eqb-false _ _ (not-true _ (sym (does_is_refused w area c r w' area' d) ∙ e))
 
@@ -67,7 +68,7 @@ chain_of {N = N} {B = B} (starve.ChainOfCalls.cleaned {w = w} {area = area} {rs 
 -- ==== The theorem, of the public calls
 
 pub calls_not_starved : {N : ℕ} {B w area : List ℕ} {rs : List Stretch} {time : ℕ} → ChainOfCalls N B w area rs time
-    → (c : Fragment) (r : Answer) (w' area' : List ℕ) → TakesFragment w area c r w' area' → c.number ≡ N → is_refused (fragment_said r) ≡ false → Cut (assembler_of w).fragment_size B c
+    → (c : Fragment) (r : Result Answer Refusal) (w' area' : List ℕ) → TakesFragment w area c r w' area' → c.number ≡ N → is_refused (fragment_said r) ≡ false → Cut (assembler_of w).fragment_size B c
     → DeliveredByCall N B w rs c r w' area'
 calls_not_starved {N = N} {B = B} {w = w} {area = area} {rs = rs} h c r w' area' d cn ok cut =
     let s = does_said w area c r w' area' d in
@@ -82,7 +83,7 @@ calls_not_starved {N = N} {B = B} {w = w} {area = area} {rs = rs} h c r w' area'
 
 -- "no call before does", of every other call: one under another number, or refused, does not return N. A cleaning, and a call that only looks, return
 -- nothing: their answers have no such case.
-pub calls_others_silent : (N : ℕ) {w area : List ℕ} → GoodAssembler w → (c : Fragment) (r : Answer) (w' area' : List ℕ) → TakesFragment w area c r w' area'
+pub calls_others_silent : (N : ℕ) {w area : List ℕ} → GoodAssembler w → (c : Fragment) (r : Result Answer Refusal) (w' area' : List ℕ) → TakesFragment w area c r w' area'
     → (c.number ≡ N → ⊥) ⊎ (is_refused (fragment_said r) ≡ true) → returns N (fragment_said r) ≡ false
 calls_others_silent N {w = w} {area = area} g c r w' area' d o =
     let s = does_said w area c r w' area' d in

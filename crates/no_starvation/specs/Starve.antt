@@ -1,9 +1,9 @@
 -- Demand 3, "Others can't starve a block", sentence by sentence. Read `Chain` (what is supposed) and `Delivered` (what follows); the theorem is
 -- `not_starved` of `proofs/StarveLaws.antt`, and of the public calls `calls_not_starved` of `proofs/StarveCalls.antt`. Assumes nothing.
-use Rattle.std.specs.Prelude.{ℕ, ◌*◌, ◌-◌, ◌<◌, ◌≤◌, min, ◌≡◌, Bool, true, false, ◌||◌, ◌⊎◌, List, [], ◌∷◌, length, take, drop, ℤ, T, eqb}
+use Rattle.std.specs.Prelude.{ℕ, ◌*◌, ◌-◌, ◌<◌, ◌≤◌, min, ◌≡◌, Bool, true, false, ◌||◌, ◌⊎◌, List, [], ◌∷◌, length, take, drop, ℤ, T, eqb, Result}
 use Rattle.outcome.specs.Outcome.{Outcome, refused, done, is_refused}
 use Rattle.fragment_assembler.specs.declared.fragment.Answer.{Answer}
-use Rattle.fragment_assembler.specs.declared.clean.Cleaned.{Cleaned}
+use Rattle.outcome.specs.declared.Refusal.{Refusal}
 use Rattle.assembly_record.specs.State.{Assembler}
 use Rattle.assembly_record.specs.Table.{is_partially_received, lower}
 use Rattle.assembly_record.specs.Marks.{covers, all_below}
@@ -125,16 +125,16 @@ pub record Delivered (N : ℕ) (B : List ℕ) (m : Moment) (rs : List Stretch) (
 -- `Chain` in the words and the area that the calls take and leave, by nothing but their promises. A call that only looks takes both as they are.
 pub data ChainOfCalls (N : ℕ) (B : List ℕ) : List ℕ → List ℕ → List Stretch → ℕ → Type 0 where
   start : {w area : List ℕ} {time : ℕ} → GoodAssembler w → (assembler_of w).reliable ≡ true → is_partially_received (assembler_of w).places N ≡ false → ChainOfCalls N B w area [] time
-  own : {w area : List ℕ} {rs : List Stretch} {time : ℕ} → ChainOfCalls N B w area rs time → (c : Fragment) (r : Answer) (w' area' : List ℕ) → TakesFragment w area c r w' area'
+  own : {w area : List ℕ} {rs : List Stretch} {time : ℕ} → ChainOfCalls N B w area rs time → (c : Fragment) (r : Result Answer Refusal) (w' area' : List ℕ) → TakesFragment w area c r w' area'
       → c.number ≡ N → is_refused (fragment_said r) ≡ false → Cut (assembler_of w).fragment_size B c → returns N (fragment_said r) ≡ false → lower N (assembler_of w').places < 128
       → ChainOfCalls N B w' area' (stretch_of c ∷ rs) c.time
-  other : {w area : List ℕ} {rs : List Stretch} {time : ℕ} → ChainOfCalls N B w area rs time → (c : Fragment) (r : Answer) (w' area' : List ℕ) → TakesFragment w area c r w' area'
+  other : {w area : List ℕ} {rs : List Stretch} {time : ℕ} → ChainOfCalls N B w area rs time → (c : Fragment) (r : Result Answer Refusal) (w' area' : List ℕ) → TakesFragment w area c r w' area'
       → (c.number ≡ N → ⊥) ⊎ (is_refused (fragment_said r) ≡ true) → lower N (assembler_of w').places < 128 → ChainOfCalls N B w' area' rs time
-  cleaned : {w area : List ℕ} {rs : List Stretch} {time : ℕ} → ChainOfCalls N B w area rs time → (cutoff : ℕ) (out : List ℤ) (r : Cleaned) (w' : List ℕ) (out' : List ℤ)
+  cleaned : {w area : List ℕ} {rs : List Stretch} {time : ℕ} → ChainOfCalls N B w area rs time → (cutoff : ℕ) (out : List ℤ) (r : Result ℕ Refusal) (w' : List ℕ) (out' : List ℤ)
       → CleansAssembler w cutoff out r w' out' → cutoff ≤ time → lower N (assembler_of w').places < 128 → ChainOfCalls N B w' area rs time
 
 -- an accepted fragment under N, cut from B, after such calls: its answer, and what the view shows on the words and the area that it left
-pub record DeliveredByCall (N : ℕ) (B : List ℕ) (w : List ℕ) (rs : List Stretch) (c : Fragment) (r : Answer) (w' area' : List ℕ) : Type 0 where
+pub record DeliveredByCall (N : ℕ) (B : List ℕ) (w : List ℕ) (rs : List Stretch) (c : Fragment) (r : Result Answer Refusal) (w' area' : List ℕ) : Type 0 where
   pub exactly : returns N (fragment_said r) ≡ is_brought (assembler_of w).fragment_size B (stretch_of c ∷ rs)
   pub bytes : is_brought (assembler_of w).fragment_size B (stretch_of c ∷ rs) ≡ true
       → (i : ℕ) × (fragment_said r ≡ done (returned N i (length B))) × (viewed (assembler_of w') area' i (length B) ≡ B)
