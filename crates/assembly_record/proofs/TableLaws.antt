@@ -1,19 +1,17 @@
 -- Laws of `specs/Table.antt`. Assumes nothing.
-use Prim.Native.Nat.{ℕ, zero, suc, ◌+◌, ◌-◌, ◌≤◌, ◌<◌, min, max}
+use Prim.Native.Nat.{ℕ, zero, suc, ◌≤◌, ◌<◌, min, max}
 use native.Mathlib.Omega.{arith}
 use native.Mathlib.Nat.{not-suc-le-zero, le_of_suc-le-suc}
 use mathlib.Core.Path.{◌≡◌, refl, sym, ap, subst, ◌∙◌}
 use mathlib.Core.Bool.{Bool, true, false, cond, ◌&&◌}
 use mathlib.Core.Logic.{◌⊎◌, inl, inr, ⊎_elim}
 use mathlib.Core.List.{List, [], ◌∷◌, map}
-use lib.ListN.{length, get_or, set, drop, replicate, length-drop, length-map}
-use lib.Seq.{drop-cons}
+use lib.ListN.{length, get_or, set, replicate, length-map}
 use lib.Dec.{ltb, eqb}
-use borrow.Author.Tests.{ltb-true, ltb-false, eqb-true, eqb-false, lt-ltb, le-ltb, eq-eqb, ne_eqb}
+use borrow.Author.Tests.{ltb-true, ltb-false, eqb-true, eqb-false, lt-ltb, le-ltb, ne_eqb}
 use Rattle.std.specs.Prelude.{Some, None, IsSome, is_some, unwrap_or}
 use Rattle.std.proofs.lemmas.Option.{cond_some, none-some}
 use Rattle.std.specs.List.{position_or_len, fold, reduce, filter}
-use Rattle.assembly_record.specs.Sizes.{place_count}
 use Rattle.assembly_record.specs.Words.{place_of}
 use Rattle.outcome.proofs.Split.{split, split_lt, clash}
 use Rattle.assembly_record.specs.State.{Place, place_at, free_place}
@@ -139,36 +137,12 @@ highest_found ps h = let w = highest_is ps h in find_some (highest_of ps) ps w.0
 
 -- ---- how many
 
-pub drop_pred : {A : Type 0} (l : List A) (i : ℕ) (d : A) → 0 < i → i ≤ length l → drop (i - 1) l ≡ get_or l (i - 1) d ∷ drop i l
-drop_pred l i d h k =
-    let e : suc (i - 1) ≡ i = omega arith in
-    drop-cons l (i - 1) d (omega arith) ∙ ap (λ (n : ℕ). get_or l (i - 1) d ∷ drop n l) e
-
 module _ (test : Place → Bool) where
   pub how_many_le : (ps : List Place) → how_many test ps ≤ length ps
   how_many_le [] = omega arith
   how_many_le (p ∷ ps) =
       let ih = how_many_le ps in
       split (test p) (λ e. rw e (omega arith)) (λ e. rw e (omega arith))
-
-  -- one place more, from the end
-  pub how_many_down : (ps : List Place) (i : ℕ) → 0 < i → i ≤ length ps
-      → how_many test (drop (i - 1) ps) ≡ cond (test (place_at ps (i - 1))) (suc (how_many test (drop i ps))) (how_many test (drop i ps))
-  how_many_down ps i h l = ap (how_many test) (drop_pred ps i free_place h l)
-
-  pub how_many_yes : (ps : List Place) (i n : ℕ) → 0 < i → i ≤ length ps → n ≡ how_many test (drop i ps) → test (place_at ps (i - 1)) ≡ true
-      → n + 1 ≡ how_many test (drop (i - 1) ps)
-  how_many_yes ps i n h l e t =
-      let d : how_many test (drop (i - 1) ps) ≡ suc (how_many test (drop i ps)) = how_many_down ps i h l ∙ rw t in
-      omega arith
-
-  pub how_many_no : (ps : List Place) (i n : ℕ) → 0 < i → i ≤ length ps → n ≡ how_many test (drop i ps) → test (place_at ps (i - 1)) ≡ false
-      → n ≡ how_many test (drop (i - 1) ps)
-  how_many_no ps i n h l e t = e ∙ sym (how_many_down ps i h l ∙ rw t)
-
-  -- what is counted of a part fits
-  pub how_many_part : (ps : List Place) (i n : ℕ) → n ≡ how_many test (drop i ps) → n + i ≤ length ps + i
-  how_many_part ps i n e = omega (arith, e, how_many_le (drop i ps), length-drop i ps)
 
   pub how_many_all : (ps : List Place) → ((j : ℕ) → j < length ps → test (place_at ps j) ≡ true) → how_many test ps ≡ length ps
   how_many_all [] h = refl

@@ -6,7 +6,7 @@ use mathlib.Core.Path.{◌≡◌, refl, sym, ap, ◌∙◌}
 use mathlib.Core.Bool.{Bool, true, false}
 use mathlib.Core.List.{List, [], ◌∷◌, ◌++◌, map, append_assoc}
 use lib.ListN.{length, get_or, set, take, drop, length-append, length-take, length-drop, take-append-drop}
-use lib.Seq.{length-take-le, get_or-take, get_or-drop, drop-drop, take-append-le, take_all, take_at, drop_at, take-add, take-take}
+use lib.Seq.{length-take-le, get_or-take, drop-drop, take-append-le, take_all, take_at, drop_at, take-add, take-take}
 use lib.Dec.{eqb}
 use borrow.Author.Tests.{eqb-true, eqb-false}
 use Rattle.std.specs.Simd.{first_chunks}
@@ -118,39 +118,6 @@ module _ (w : List ℕ) (i : ℕ) (h : i < place_count) where
   pub place_at_lem : place_at (places_of w) i ≡ place_of (take row_size (drop (3 + row_size * i) w))
   unfolding places_of
   place_at_lem = row_at place_count i (drop 3 w) h ∙ ap (λ (l : List ℕ). place_of (take row_size l)) (drop-drop (row_size * i) 3 w)
-
-  word_at_lem : (j : ℕ) → j < 7 → get_or (take row_size (drop (3 + row_size * i) w)) j 0 ≡ get_or w (3 + row_size * i + j) 0
-  word_at_lem j l = get_or-take row_size (drop (3 + row_size * i) w) j 0 l ∙ get_or-drop (3 + row_size * i) w j 0
-
-  pub number_at : get_or w (3 + row_size * i) 0 ≡ (place_at (places_of w) i).number
-  number_at =
-      let e : 3 + row_size * i ≡ 3 + row_size * i + 0 = omega arith in
-      ap (λ (k : ℕ). get_or w k 0) e ∙ sym (word_at_lem 0 (omega arith)) ∙ ap (λ (p : Place). p.number) (sym place_at_lem)
-
-  pub size_at : get_or w (3 + row_size * i + 1) 0 ≡ (place_at (places_of w) i).size
-  size_at = sym (word_at_lem 1 (omega arith)) ∙ ap (λ (p : Place). p.size) (sym place_at_lem)
-
-  pub time_at : get_or w (3 + row_size * i + 2) 0 ≡ (place_at (places_of w) i).time
-  time_at = sym (word_at_lem 2 (omega arith)) ∙ ap (λ (p : Place). p.time) (sym place_at_lem)
-
-  pub marks_at : take ((3 + row_size * i + 3 + 4) - (3 + row_size * i + 3)) (drop (3 + row_size * i + 3) w) ≡ (place_at (places_of w) i).marks
-  marks_at =
-      let n : (3 + row_size * i + 3 + 4) - (3 + row_size * i + 3) ≡ 4 = omega arith in
-      ap (λ (k : ℕ). take k (drop (3 + row_size * i + 3) w)) n
-      ∙ ap (take 4) (sym (drop-drop 3 (3 + row_size * i) w))
-      ∙ sym (drop_take (drop (3 + row_size * i) w))
-      ∙ ap (λ (p : Place). p.marks) (sym place_at_lem)
-    where
-      drop_take : (l : List ℕ) → drop 3 (take row_size l) ≡ take 4 (drop 3 l)
-      drop_take [] = refl
-      drop_take (a ∷ []) = refl
-      drop_take (a ∷ (b ∷ [])) = refl
-      drop_take (a ∷ (b ∷ (c ∷ l))) = refl
-
-  pub marks_long : length w ≡ assembler_size → length (take ((3 + row_size * i + 3 + 4) - (3 + row_size * i + 3)) (drop (3 + row_size * i + 3) w)) ≡ 4
-  marks_long e =
-      let n : (3 + row_size * i + 3 + 4) - (3 + row_size * i + 3) ≡ 4 = omega arith in
-      omega (arith, n, length-take ((3 + row_size * i + 3 + 4) - (3 + row_size * i + 3)) (drop (3 + row_size * i + 3) w), length-drop (3 + row_size * i + 3) w)
 
   part_seven : (3 + row_size * i + 7) - (3 + row_size * i) ≡ row_size
   part_seven = omega arith

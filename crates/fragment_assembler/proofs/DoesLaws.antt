@@ -6,9 +6,8 @@ use mathlib.Core.Bool.{true, false}
 use mathlib.Core.List.{List}
 use lib.ListN.{length, get_or, set, replicate}
 use lib.Seq.{paste, get_or-set_same}
-use borrow.Author.Tests.{lt-ltb, le-ltb}
 use Rattle.assembly_record.specs.Sizes.{place_count}
-use Rattle.outcome.specs.Outcome.{Outcome, refused, done}
+use Rattle.outcome.specs.Outcome.{refused, done}
 use Rattle.outcome.proofs.Split.{clash}
 use Rattle.fragment_assembler.proofs.CallLaws.{inside, fragment_accepted, fragment_refused, begin_known, opened_sample, begin_fresh}
 use Rattle.fragment_assembler.proofs.CallRules.{fragment_ok}

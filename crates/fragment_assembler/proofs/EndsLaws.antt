@@ -1,5 +1,5 @@
 -- Laws of `Ends` of `specs/Inner.antt`: what the code did to the words at the end of a call is the end that is defined on the state. Assumes nothing.
-use Prim.Native.Nat.{ℕ, ◌+◌, ◌*◌, ◌≤◌, ◌<◌}
+use Prim.Native.Nat.{ℕ, ◌≤◌, ◌<◌}
 use native.Mathlib.Omega.{arith}
 use mathlib.Core.Path.{◌≡◌, refl, sym, ap, subst, ◌∙◌}
 use mathlib.Core.Bool.{Bool, true, false}
@@ -7,16 +7,16 @@ use mathlib.Core.List.{List}
 use lib.ListN.{length, get_or, set}
 use lib.Seq.{set-set, set-get_or}
 use lib.Dec.{eqb}
-use Rattle.assembly_record.specs.Sizes.{place_count, largest_place, row_size, assembler_size}
+use Rattle.assembly_record.specs.Sizes.{place_count, assembler_size}
 use Rattle.fragment_assembler.proofs.CallLaws.{settle_kept, victim_found, settle_dropped, end_whole, end_not}
-use Rattle.assembly_record.proofs.WordsLaws.{became_then, length_places, size_at, same}
+use Rattle.assembly_record.proofs.WordsLaws.{became_then, length_places, same}
 use Rattle.fragment_assembler.specs.Call.{Ending, drop_if_full, dropped, end_at, returned}
 use Rattle.std.specs.Prelude.{IsSome}
 use Rattle.assembly_record.proofs.TableLaws.{found_is}
 use Rattle.assembly_record.specs.Table.{victim, find, found_place}
 use Rattle.assembly_record.specs.Fragments.{is_whole}
 use Rattle.assembly_record.specs.Rows.{Became}
-use Rattle.fragment_assembler.specs.Inner.{Ends, Closes}
+use Rattle.fragment_assembler.specs.Inner.{Ends}
 use Rattle.assembly_record.specs.State.{place_at, Place, with_places, free_place, Assembler}
 use Rattle.assembly_record.specs.Words.{assembler_of, places_of}
 use Rattle.fragment_assembler.specs.declared.fragment.Answer.{Answer}

@@ -1,5 +1,5 @@
 -- Laws of `specs/Missing.antt`. Assumes nothing.
-use Prim.Native.Nat.{ℕ, suc, ◌+◌, ◌*◌, ◌-◌, ◌≤◌, ◌<◌}
+use Prim.Native.Nat.{ℕ, suc, ◌-◌, ◌≤◌, ◌<◌}
 use native.Mathlib.Omega.{arith}
 use native.Mathlib.Nat.{not-suc-le-zero}
 use mathlib.Core.Path.{◌≡◌, refl, sym, ap, subst, ◌∙◌}
@@ -52,7 +52,7 @@ misses_as w out r after e h = subst (λ (k : ℕ). ListsFragments w k out r afte
 
 -- the number stands at k, whose row the code reads; f is how many fragments its sample has
 module _ (w : List ℕ) (n k f : ℕ) (rs : List (List ℕ)) (e : Some k ≡ place_of_number (places_of w) n) (p : map place_of rs ≡ places_of w) (l : length rs ≡ place_count)
-         (z : length (get_or rs k []) ≡ row_size) (ef : f ≡ fragments (get_or (get_or rs k []) 1 0) (get_or w 0 0)) where
+    (z : length (get_or rs k []) ≡ row_size) (ef : f ≡ fragments (get_or (get_or rs k []) 1 0) (get_or w 0 0)) where
   abbrev m : List ℕ
   m = take 4 (drop 3 (get_or rs k []))
 

@@ -51,12 +51,6 @@ refusal_some row.NotRising e = omega arith
 -- ---- a run's refusals
 
 module _ (most start count : ℕ) where
-  pub run_10 : count ≡ 0 → 10 ≡ run_refusal most start count
-  run_10 e = rw (eq-eqb count 0 e)
-
-  pub run_11 : (count ≡ 0 → ⊥) → start ≡ 0 → 11 ≡ run_refusal most start count
-  run_11 n e = rw (ne_eqb count 0 n, eq-eqb start 0 e)
-
   pub run_12 : (count ≡ 0 → ⊥) → (start ≡ 0 → ⊥) → most < start - 1 + count → 12 ≡ run_refusal most start count
   run_12 n m l = rw (ne_eqb count 0 n, ne_eqb start 0 m, lt-ltb most (start - 1 + count) l)
 

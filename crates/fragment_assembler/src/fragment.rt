@@ -31,7 +31,13 @@ pub enum Answer {
 }
 
 // A fragment of the sample `number` arrives; the time is stored as it is. The number is sought once, and a free place only where it opens.
-pub fn new_datafrag(t: &mut [u64], area: &mut [u8], time: u64, number: i64, frag: DataFrag) -> Result<Answer, Refusal>
+pub fn new_datafrag(
+    t: &mut [u64],
+    area: &mut [u8],
+    time: u64,
+    number: i64,
+    frag: DataFrag,
+) -> Result<Answer, Refusal>
     requires { GoodAssembler t.old }
     ensures { TakesFragment t.old area.old (fragment_of time (number_of number) frag.entry) result t.new area.new }
 {

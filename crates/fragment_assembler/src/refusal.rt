@@ -56,7 +56,12 @@ fn refuse_opening(d: u64, f: u64, p: u64) -> Result<(), Refusal>
 }
 
 // The number of a call that is accepted, and the place where it stands; `long` is the area's length. No row asks for the payload's.
-pub(crate) fn admit(t: &[u64], long: usize, number: i64, frag: DataFrag) -> Result<(u64, Option<usize>), Refusal>
+pub(crate) fn admit(
+    t: &[u64],
+    long: usize,
+    number: i64,
+    frag: DataFrag,
+) -> Result<(u64, Option<usize>), Refusal>
     requires { GoodAssembler t.now }
     ensures refused { refusal (said result) ≡ fragment_refusal (assembler_of t.now) long (head_of (fragment_of 0 (number_of number) frag.entry)) }
     ensures place { IfOk result (λ r. (r.0 ≡ number_of number) × (r.1 ≡ found_place (number_of number) (places_of t.now))) }

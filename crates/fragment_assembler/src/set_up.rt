@@ -23,7 +23,12 @@ fn reset(d: &mut [u64], fragment_size: u64, place_size: u64, reliable: bool)
 }
 
 // A fresh assembler in the first 906 words.
-pub fn set_up(t: &mut [u64], fragment_size: u16, reliable: bool, place_size: u32) -> Result<(), Refusal>
+pub fn set_up(
+    t: &mut [u64],
+    fragment_size: u16,
+    reliable: bool,
+    place_size: u32,
+) -> Result<(), Refusal>
     ensures { SetsUpAssembler t.old fragment_size reliable place_size result t.new }
 {
     if fragment_size == 0 || place_size == 0 || LARGEST_PLACE < place_size {

@@ -1,10 +1,8 @@
 -- `fragment_assembler::fragment::new_datafrag` meets its contract: a row refuses the call, or it is taken under its number. Assumes nothing.
 use mathlib.Core.Path.{◌∙◌}
 use Rattle.std.proofs.lemmas.Result.{err_from_is_err_and}
-use Rattle.sequence_number.specs.Number.{number_of}
 use Rattle.fragment_assembler.proofs.DoesLaws.{admitted, does_as, does_refused}
 use Rattle.fragment_assembler.proofs.RefusalLaws.{number_same}
-use Rattle.fragment_assembler.specs.Fragment.{fragment_of}
 use Rattle.fragment_assembler.proofs.fragment.new_datafrag.Goals as goal
 
 pub returns-in_err-n : goal.returns-in_err-n

@@ -1,9 +1,8 @@
 -- `fragment_assembler::refusal::admit` meets its contract: each answer is a case of the rows, in their order. Assumes nothing.
 use Prim.Native.Nat.{ℕ}
 use native.Mathlib.Omega.{arith}
-use mathlib.Core.Path.{◌≡◌, refl, sym, ap, ◌∙◌}
+use mathlib.Core.Path.{sym, ap, ◌∙◌}
 use mathlib.Core.List.{[]}
-use lib.ListN.{length, get_or}
 use Rattle.std.specs.Prelude.{Result}
 use Rattle.outcome.specs.Outcome.{refusal}
 use Rattle.outcome.specs.Refusal.{said}
@@ -58,15 +57,19 @@ returns-in_err-refuse_opening-in-None-clause-refused c =
 
 pub refuse_run-requires : goal.refuse_run-requires
 refuse_run-requires c =
-    let w = c.args.t.now in
-    (c.requires.ok.some, (c.requires.ok.fragment_size,
-    elim c.match-at.branch [
-      in-Some x ↦
-          let s = found_some _ (places_of w) x.in-Some.seat (sym x.in-Some.is ∙ c.seek-at.ensures) in
-          let q = row_place x.rows.result.now (places_of w) x.in-Some.seat [] x.rows.ensures.places (omega (arith, s.1, x.rows.ensures.long, length_places w)) in
-          omega (arith, x.d-is, ap (λ (p : Place). p.size) q, good_size w c.requires x.in-Some.seat)
-    | in-None+in_ok-refuse_opening-in-None x ↦ omega (arith, x.d-is, c.ranges.frag)
-    ]))
+    let w = c.args.t.now in (
+      c.requires.ok.some,
+      (
+        c.requires.ok.fragment_size,
+        elim c.match-at.branch [
+          | in-Some x ↦
+              let s = found_some _ (places_of w) x.in-Some.seat (sym x.in-Some.is ∙ c.seek-at.ensures) in
+              let q = row_place x.rows.result.now (places_of w) x.in-Some.seat [] x.rows.ensures.places (omega (arith, s.1, x.rows.ensures.long, length_places w)) in
+              omega (arith, x.d-is, ap (λ (p : Place). p.size) q, good_size w c.requires x.in-Some.seat)
+          | in-None+in_ok-refuse_opening-in-None x ↦ omega (arith, x.d-is, c.ranges.frag)
+        ],
+      ),
+    )
 
 pub returns-in_err-refuse_run-clause-refused : goal.returns-in_err-refuse_run-clause-refused
 returns-in_err-refuse_run-clause-refused c =
@@ -78,9 +81,9 @@ returns-in_err-refuse_run-clause-refused c =
     rw (p.1, p.2)
     (c.in_err-refuse_run.ensures
     ∙ elim c.match-at.branch [
-        in-Some y ↦ asked_known h y.in-Some.seat y.rows.result.now _ (sym y.in-Some.is ∙ c.seek-at.ensures) y.rows.ensures.places y.rows.ensures.long y.d-is
+      | in-Some y ↦ asked_known h y.in-Some.seat y.rows.result.now _ (sym y.in-Some.is ∙ c.seek-at.ensures) y.rows.ensures.places y.rows.ensures.long y.d-is
       | in-None+in_ok-refuse_opening-in-None y ↦ asked_opens h (sym y.in-None.is ∙ c.seek-at.ensures) _ y.d-is y.in_ok-refuse_opening-in-None.ensures
-      ])
+    ])
 
 pub returns-clause-refused : goal.returns-clause-refused
 returns-clause-refused c =
@@ -90,6 +93,6 @@ returns-clause-refused c =
     record { area = c.if-long-p.false; low = n.0; high = n.1; number = n.2; size = c.if-frag-f.false } in
     c.in_ok-refuse_run.ensures
     ∙ elim c.match-at.branch [
-        in-Some y ↦ asked_known h y.in-Some.seat y.rows.result.now _ (sym y.in-Some.is ∙ c.seek-at.ensures) y.rows.ensures.places y.rows.ensures.long y.d-is
+      | in-Some y ↦ asked_known h y.in-Some.seat y.rows.result.now _ (sym y.in-Some.is ∙ c.seek-at.ensures) y.rows.ensures.places y.rows.ensures.long y.d-is
       | in-None+in_ok-refuse_opening-in-None y ↦ asked_opens h (sym y.in-None.is ∙ c.seek-at.ensures) _ y.d-is y.in_ok-refuse_opening-in-None.ensures
-      ]
+    ]
