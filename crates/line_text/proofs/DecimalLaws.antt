@@ -1,20 +1,22 @@
--- Laws of `specs/Decimal.antt`: the digits of a number one by one, and how long a text is. Assumes nothing.
-use Prim.Native.Nat.{ℕ, zero, suc, ◌+◌, ◌/◌, ◌%◌, ◌^◌, ◌<◌, ◌≤◌}
+-- Laws of `specs/Decimal.antt`: the digits of a number one by one, how long a text is, and a text over a lent buffer. Assumes nothing.
+use Prim.Native.Nat.{ℕ, zero, suc, ◌+◌, ◌-◌, ◌/◌, ◌%◌, ◌^◌, ◌<◌, ◌≤◌}
 use mathlib.Core.Path.{◌≡◌, refl, sym, ap, ◌∙◌}
 use mathlib.Core.List.{List, [], ◌∷◌, ◌++◌, map, append-nil, append_assoc, map-append}
 use native.Mathlib.Omega.{arith}
 use native.Mathlib.Numerals.{add-one}
-use lib.ListN.{length, take, get_or, set, length-append}
+use lib.ListN.{length, take, drop, get_or, length-append, length-drop, drop_of_length-le}
 use lib.IntN.{ℤ, pos}
 use lib.Signed.{mag}
 use mir.Syntax.{w64}
 use mir.Val.{Fits, SFits, of_z, to_z}
-use lib.Seq.{sets, take-suc}
+use lib.Seq.{take-suc, take_all, take_at, drop_at, drop-drop}
 use lib.Dec.{ltb}
 use borrow.Author.Tests.{lt-ltb, le-ltb, ltb-true, ltb-false}
-use Rattle.sequence_number.specs.Number.{nat_of}
+use Rattle.std.specs.Fmt.{decimal}
+use Rattle.std.proofs.lemmas.Fmt.{decimal_by_steps}
+use Rattle.outcome.specs.Lent.{over}
 use Rattle.outcome.proofs.Split.{split}
-use Rattle.outcome.proofs.LentLaws.{sets_sets}
+use Rattle.sequence_number.specs.Number.{nat_of}
 use Rattle.sequence_number.proofs.NumberLaws.{nat_top, nat_passed}
 use Rattle.line_text.specs.Decimal.{digits_within, digits, spaced_number, spaced, started}
 
@@ -55,20 +57,33 @@ length_most (suc k) n h =
     (λ e. omega (arith, length_one n (ltb-true n 10 e)))
     (λ e. omega (arith, length_more n (ltb-false n 10 e), length_most k (n / 10) (omega arith)))
 
--- the code's two ways to write a number
-pub put_one : (out : List ℕ) (at n : ℕ) → n < 10 → (set out at (48 + n) ≡ sets out at (digits n)) × (at + 1 ≡ at + length (digits n))
-put_one out at n h = (rw (digits_one n h), omega (arith, length_one n h))
+-- the library prints the same digits
+pub decimal_digits : (n : ℕ) → n < 2 ^ 64 → decimal n ≡ digits n
+decimal_digits n h =
+    decimal_by_steps (λ n ds. ds ≡ digits n) (λ n h. sym (digits_one n h)) (λ n ds h e. ap (λ (l : List ℕ). l ++ ((48 + n % 10) ∷ [])) e ∙ sym (digits_more n h)) n h
 
-pub put_more : (out mid : List ℕ) (at end n : ℕ) → 10 ≤ n → mid ≡ sets out at (digits (n / 10)) → end ≡ at + length (digits (n / 10))
-    → (set mid end (48 + n % 10) ≡ sets out at (digits n)) × (end + 1 ≡ at + length (digits n))
-put_more out mid at end n h p e = (
-  sets_sets out mid (set mid end (48 + n % 10)) (digits (n / 10)) ((48 + n % 10) ∷ []) at end e p refl ∙ ap (sets out at) (sym (digits_more n h)),
-  omega (arith, length_more n h),
-)
+-- a text after a text, over a lent buffer
+pub over_after : (a b out mid : List ℕ) (k : ℕ) → k ≡ length a → mid ≡ over a out → take k mid ++ over b (drop k mid) ≡ over (a ++ b) out
+over_after a b out mid k e p =
+    let t : take k mid ≡ a = ap (take k) p ∙ take_at a (drop (length a) out) k (sym e) in
+    let d : drop k mid ≡ drop (length a) out = ap (drop k) p ∙ drop_at a (drop (length a) out) k (sym e) in
+    let r : drop (length b) (drop k mid) ≡ drop (length (a ++ b)) out =
+    ap (drop (length b)) d ∙ drop-drop (length b) (length a) out ∙ ap (λ (i : ℕ). drop i out) (sym (length-append a b)) in
+    (λ i. t i ++ (b ++ r i)) ∙ sym (append_assoc a b (drop (length (a ++ b)) out))
 
-pub put_spaced : (out out' : List ℕ) (at end n : ℕ) → out' ≡ sets (set out at 32) (at + 1) (digits n) → end ≡ at + 1 + length (digits n)
-    → (out' ≡ sets out at (spaced_number n)) × (end ≡ at + length (spaced_number n))
-put_spaced out out' at end n p e = (rw add-one at p, omega arith)
+-- the same of a part of the buffer, from a place on, that is lent and back
+abbrev pub from_on : List ℕ → ℕ → List ℕ
+from_on l k = take (length l - k) (drop k l)
+
+abbrev pub put_from : List ℕ → ℕ → List ℕ → List ℕ
+put_from l k part = take k l ++ (part ++ drop (length l - k) (drop k l))
+
+pub over_on : (a b out mid part : List ℕ) (k : ℕ) → k ≡ length a → mid ≡ over a out → part ≡ over b (from_on mid k) → put_from mid k part ≡ over (a ++ b) out
+over_on a b out mid part k e p q =
+    let n = length mid - k in
+    let all : from_on mid k ≡ drop k mid = take_all n (drop k mid) (omega (arith, length-drop k mid)) in
+    let none : drop n (drop k mid) ≡ [] = drop_of_length-le (drop k mid) {i = n} (omega (arith, length-drop k mid)) in
+    ap (λ (l : List ℕ). take k mid ++ (part ++ l)) none ∙ ap (λ (l : List ℕ). take k mid ++ l) (append-nil part ∙ q ∙ ap (over b) all) ∙ over_after a b out mid k e p
 
 -- Lists of numbers
 
@@ -90,22 +105,22 @@ spaced_most z n h e =
     let f : SFits w64 z = record { sfits = h } in
     omega (arith, length_most 18 n (omega (arith, nat_passed z n f e, nat_top z f)))
 
-pub list_none : (out : List ℕ) (at : ℕ) → (out ≡ sets out at (spaced [])) × (at ≡ at + length (spaced []))
+pub list_none : (out : List ℕ) → (out ≡ over (spaced []) out) × (0 ≡ length (spaced []))
 unfolding spaced
-list_none out at = (refl, omega arith)
+list_none out = (refl, refl)
 
 -- one number more of a list
-pub list_more : (out mid out' : List ℕ) (at end end' : ℕ) (list : List ℤ) (i n : ℕ) → mag (get_or list i (pos 0)) < 2 ^ 63 → i < length list
+pub list_more : (out mid part : List ℕ) (end m : ℕ) (list : List ℤ) (i n : ℕ) → mag (get_or list i (pos 0)) < 2 ^ 63 → i < length list
     → n ≡ nat_of (to_z w64 (of_z w64 (get_or list i (pos 0))))
-    → mid ≡ sets out at (spaced (map nat_of (take i list))) → end ≡ at + length (spaced (map nat_of (take i list)))
-    → out' ≡ sets mid end (spaced_number n) → end' ≡ end + length (spaced_number n)
-    → (out' ≡ sets out at (spaced (map nat_of (take (i + 1) list)))) × (end' ≡ at + length (spaced (map nat_of (take (i + 1) list))))
-list_more out mid out' at end end' list i n f h e p q p' q' =
+    → mid ≡ over (spaced (map nat_of (take i list))) out → end ≡ length (spaced (map nat_of (take i list)))
+    → part ≡ over (spaced_number n) (from_on mid end) → m ≡ length (spaced_number n)
+    → (put_from mid end part ≡ over (spaced (map nat_of (take (i + 1) list))) out) × (end + m ≡ length (spaced (map nat_of (take (i + 1) list))))
+list_more out mid part end m list i n f h e p q p' q' =
     let old = map nat_of (take i list) in
     let t : map nat_of (take (i + 1) list) ≡ old ++ (n ∷ []) =
     rw add-one (ap (map nat_of) (take-suc list i (pos 0) h) ∙ map-append nat_of (take i list) (get_or list i (pos 0) ∷ []) ∙ ap (λ (k : ℕ). old ++ (k ∷ [])) (sym (nat_passed (get_or list i (pos 0)) n (record { sfits = f }) e))) in
     let w : spaced (map nat_of (take (i + 1) list)) ≡ spaced old ++ spaced_number n = ap spaced t ∙ spaced_end old n in (
-      sets_sets out mid out' (spaced old) (spaced_number n) at end q p p' ∙ ap (sets out at) (sym w),
+      over_on (spaced old) (spaced_number n) out mid part end q p p' ∙ ap (λ (l : List ℕ). over l out) (sym w),
       omega (arith, ap length w, length-append (spaced old) (spaced_number n)),
     )
 
@@ -113,7 +128,7 @@ list_more out mid out' at end end' list i n f h e p q p' q' =
 
 -- what stands once a part of a line is written
 abbrev pub Begun : List ℕ → List ℕ → ℕ → ℕ → List ℕ → Type 0
-Begun out out' end k l = (out' ≡ sets out 0 (started k l)) × (end ≡ length (started k l))
+Begun out out' end k l = (out' ≡ over (started k l) out) × (end ≡ length (started k l))
 
 started_none : (k : ℕ) → started k [] ≡ digits k
 unfolding spaced
@@ -122,21 +137,21 @@ started_none k = append-nil (digits k)
 started_append : (k : ℕ) (l ms : List ℕ) → started k (l ++ ms) ≡ started k l ++ spaced ms
 started_append k l ms = ap (λ (t : List ℕ). digits k ++ t) (spaced_append l ms) ∙ sym (append_assoc (digits k) (spaced l) (spaced ms))
 
-pub begun_first : (out out' : List ℕ) (end k : ℕ) → out' ≡ sets out 0 (digits k) → end ≡ 0 + length (digits k) → Begun out out' end k []
-begun_first out out' end k p e = (p ∙ ap (sets out 0) (sym (started_none k)), omega (arith, ap length (started_none k)))
+pub begun_first : (out out' : List ℕ) (end k : ℕ) → out' ≡ over (digits k) out → end ≡ length (digits k) → Begun out out' end k []
+begun_first out out' end k p e = (p ∙ ap (λ (l : List ℕ). over l out) (sym (started_none k)), omega (arith, ap length (started_none k)))
 
-pub goes_on : (out mid out' : List ℕ) (end end' k : ℕ) (l ms : List ℕ) → Begun out mid end k l → out' ≡ sets mid end (spaced ms) → end' ≡ end + length (spaced ms)
-    → Begun out out' end' k (l ++ ms)
-goes_on out mid out' end end' k l ms h p e =
+pub goes_on : (out mid part : List ℕ) (end m k : ℕ) (l ms : List ℕ) → Begun out mid end k l → part ≡ over (spaced ms) (from_on mid end) → m ≡ length (spaced ms)
+    → Begun out (put_from mid end part) (end + m) k (l ++ ms)
+goes_on out mid part end m k l ms h p e =
     let w = started_append k l ms in (
-      sets_sets out mid out' (started k l) (spaced ms) 0 end (omega (arith, h.1)) h.0 p ∙ ap (sets out 0) (sym w),
+      over_on (started k l) (spaced ms) out mid part end h.1 h.0 p ∙ ap (λ (t : List ℕ). over t out) (sym w),
       omega (arith, ap length w, length-append (started k l) (spaced ms), h.1),
     )
 
-pub goes_on_one : (out mid out' : List ℕ) (end end' k m : ℕ) (l : List ℕ) → Begun out mid end k l → out' ≡ sets mid end (spaced_number m) → end' ≡ end + length (spaced_number m)
-    → Begun out out' end' k (l ++ (m ∷ []))
-goes_on_one out mid out' end end' k m l h p e =
-    goes_on out mid out' end end' k l (m ∷ []) h (p ∙ ap (sets mid end) (sym (spaced_one m))) (omega (arith, ap length (spaced_one m)))
+pub goes_on_one : (out mid part : List ℕ) (end m k n : ℕ) (l : List ℕ) → Begun out mid end k l → part ≡ over (spaced_number n) (from_on mid end) → m ≡ length (spaced_number n)
+    → Begun out (put_from mid end part) (end + m) k (l ++ (n ∷ []))
+goes_on_one out mid part end m k n l h p e =
+    goes_on out mid part end m k l (n ∷ []) h (p ∙ ap (λ (t : List ℕ). over t (from_on mid end)) (sym (spaced_one n))) (omega (arith, ap length (spaced_one n)))
 
 -- a word takes twenty digits at most
 pub word_most : (n : ℕ) → Fits w64 n → length (digits n) ≤ 20

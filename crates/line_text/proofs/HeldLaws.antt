@@ -1,25 +1,14 @@
--- Laws of `specs/Held.antt`: the code's two ways with a byte, and what is held of a line. Assumes nothing.
-use Prim.Native.Nat.{ℕ, suc, ◌+◌, ◌<◌, ◌≤◌}
+-- Laws of `specs/Held.antt`: what a byte changes, and what is held of a line. Assumes nothing.
+use Prim.Native.Nat.{ℕ, suc, ◌<◌, ◌≤◌}
 use mathlib.Core.Path.{◌≡◌, refl, sym, ap, ◌∙◌}
 use mathlib.Core.Logic.{⊎_elim}
 use mathlib.Core.List.{List, [], ◌∷◌, ◌++◌, append_assoc, append-nil}
 use native.Mathlib.Omega.{arith}
-use native.Mathlib.Numerals.{add-one}
 use lib.ListN.{length, take, set, length-set, length-take}
 use lib.Seq.{take-suc-set, take_all, take-append-le, length-take-le}
 use borrow.Author.Tests.{lt-ltb, le-ltb}
 use Rattle.outcome.proofs.Split.{split_lt}
-use Rattle.line_text.specs.Held.{Holding, holding, held_line, held_on, held_through}
-
--- a byte that has room, and one that has none
-module _ (held : List ℕ) (count b : ℕ) where
-  pub hold_more : count < length held → holding (set held count b) (count + 1) ≡ held_on b (holding held count)
-  unfolding held_on
-  hold_more h = rw (lt-ltb count (length held) h) (ap (holding (set held count b)) (add-one count))
-
-  pub hold_none : length held ≤ count → holding held count ≡ held_on b (holding held count)
-  unfolding held_on
-  hold_none h = rw (le-ltb count (length held) h)
+use Rattle.line_text.specs.Held.{Holding, held_line, held_on, held_through}
 
 -- no byte changes how many can be held, and one more is held at most
 module _ (b : ℕ) (h : Holding) where

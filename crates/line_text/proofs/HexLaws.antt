@@ -1,15 +1,16 @@
 -- Laws of `specs/Hex.antt`: what digits stand for, and how large a number they write. Assumes nothing.
 use Prim.Native.Nat.{ℕ, zero, suc, ◌+◌, ◌-◌, ◌*◌, ◌^◌, ◌<◌, ◌≤◌}
 use mathlib.Core.Path.{◌≡◌, refl, sym, ap, ◌∙◌}
-use mathlib.Core.Bool.{true, false}
+use mathlib.Core.Bool.{true, false, not}
 use mathlib.Core.List.{List, [], ◌∷◌}
 use native.Mathlib.Omega.{arith}
-use native.Mathlib.Numerals.{add-one}
-use lib.ListN.{length, get_or, drop}
-use lib.Seq.{drop-cons, drop-length}
+use lib.ListN.{length, get_or}
 use lib.Dec.{ltb, leb, eqb}
 use lib.Pow.{pow-add, pow_mono}
 use borrow.Author.Tests.{lt-ltb, le-ltb, le-leb, lt-leb, leb-true, eqb-true, eqb-false, eq-eqb, ne_eqb}
+use Rattle.std.specs.Char.{digit_value, is_ascii_hexdigit}
+use Rattle.std.specs.List.{list_all}
+use Rattle.std.proofs.lemmas.Bool.Decides.{nat_tests}
 use Rattle.outcome.proofs.Split.{split}
 use Rattle.line_text.specs.Hex.{digit_of, all_hex, value_at}
 
@@ -53,6 +54,28 @@ digit_most c =
     split (ltb c 97) (λ f. rw f (omega arith)) (λ f. rw f (
     split (leb c 102) (λ g. rw g (omega (arith, leb-true c 102 g))) (λ g. rw g (omega arith))))))))))))
 
+-- the library's words for a digit
+module _ (c : ℕ) where
+  pub value_is_digit : digit_value c < 16 → digit_value c ≡ digit_of c
+  unfolding digit_of
+  value_is_digit h = grind (arith, nat_tests)
+
+  pub digit_has_value : digit_of c < 16 → digit_value c < 16
+  unfolding digit_of
+  digit_has_value h = grind (arith, nat_tests)
+
+  pub hexdigit_is : is_ascii_hexdigit c ≡ not (eqb (digit_of c) 16)
+  unfolding digit_of
+  hexdigit_is = grind (arith, nat_tests)
+
+pub hex_tests : (s : List ℕ) → list_all is_ascii_hexdigit s ≡ all_hex s
+unfolding all_hex
+hex_tests [] = refl
+hex_tests (c ∷ s) =
+    split (eqb (digit_of c) 16)
+    (λ e. rw (hexdigit_is c, e))
+    (λ e. rw (hexdigit_is c, e) (hex_tests s))
+
 -- the first byte, and the rest
 pub hex_first : (c : ℕ) (s : List ℕ) → digit_of c ≡ 16 → all_hex (c ∷ s) ≡ false
 unfolding all_hex
@@ -73,17 +96,6 @@ hex_at (c ∷ s) i a h =
     here : (i : ℕ) → i < suc (length s) → digit_of c < 16 → ((i : ℕ) → all_hex s ≡ true → i < length s → digit_of (get_or s i 0) < 16) → digit_of (get_or (c ∷ s) i 0) < 16
     here zero h d r = d
     here (suc i) h d r = r i (sym (hex_rest c s (λ x. omega arith)) ∙ a) (omega arith)
-
--- what a walk from the front has seen
-pub hex_stops : (s : List ℕ) (i : ℕ) → i < length s → all_hex (drop i s) ≡ all_hex s → digit_of (get_or s i 0) ≡ 16 → false ≡ all_hex s
-hex_stops s i h a e = sym (hex_first _ _ e) ∙ ap all_hex (sym (drop-cons s i 0 h)) ∙ a
-
-pub hex_goes_on : (s : List ℕ) (i : ℕ) → i < length s → all_hex (drop i s) ≡ all_hex s → (digit_of (get_or s i 0) ≡ 16 → ⊥) → all_hex (drop (i + 1) s) ≡ all_hex s
-hex_goes_on s i h a e = rw add-one (sym (hex_rest _ _ e) ∙ ap all_hex (sym (drop-cons s i 0 h)) ∙ a)
-
-pub hex_ends : (s : List ℕ) (i : ℕ) → i ≡ length s → all_hex (drop i s) ≡ all_hex s → true ≡ all_hex s
-unfolding all_hex
-hex_ends s i e a = ap all_hex (sym (drop-length s)) ∙ ap (λ (k : ℕ). all_hex (drop k s)) (sym e) ∙ a
 
 -- Numbers
 

@@ -1,45 +1,40 @@
-// Decimal numbers in a line of text. A function writes from a place on and answers where what it wrote ends.
-ghost use Rattle.std.specs.Prelude.{◌≡◌, map, ◌+◌, ◌*◌, ◌≤◌, length, take};
-ghost use Rattle.std.proofs.lemmas.List.Edits.{sets};
+// Decimal numbers at the front of a lent buffer: each function answers how many bytes it wrote.
+ghost use Rattle.std.specs.Prelude.{◌≡◌, map, ◌*◌, ◌≤◌, length};
+ghost use Rattle.outcome.specs.Lent.{over};
 ghost use Rattle.sequence_number.specs.Number.{nat_of};
 ghost use Rattle.line_text.specs.Decimal.{digits, spaced_number, spaced};
 
+use itoa::Buffer;
 use sequence_number::number::natural;
 
 // The digits of n.
-pub fn put_number(out: &mut [u8], at: usize, n: u64) -> usize
-    requires { at + length (digits n) ≤ length out.old }
-    ensures { (out.new ≡ sets out.old at (digits n)) × (result ≡ at + length (digits n)) }
+pub fn put_number(out: &mut [u8], n: u64) -> usize
+    requires { length (digits n) ≤ length out.old }
+    ensures { (out.new ≡ over (digits n) out.old) × (result ≡ length (digits n)) }
 {
-    if n < 10 {
-        out[at] = 48 + n as u8;
-        return at + 1;
-    }
-    let end = put_number(out, at, n / 10);
-    out[end] = 48 + (n % 10) as u8;
-    end + 1
+    let mut buffer = Buffer::new();
+    let text = buffer.format(n).as_bytes();
+    out[..text.len()].copy_from_slice(text);
+    text.len()
 }
 
 // A space and the digits of n.
-pub fn put_next(out: &mut [u8], at: usize, n: u64) -> usize
-    requires { at + length (spaced_number n) ≤ length out.old }
-    ensures { (out.new ≡ sets out.old at (spaced_number n)) × (result ≡ at + length (spaced_number n)) }
+pub fn put_next(out: &mut [u8], n: u64) -> usize
+    requires { length (spaced_number n) ≤ length out.old }
+    ensures { (out.new ≡ over (spaced_number n) out.old) × (result ≡ length (spaced_number n)) }
 {
-    out[at] = b' ';
-    put_number(out, at + 1, n)
+    out[0] = b' ';
+    1 + put_number(&mut out[1..], n)
 }
 
-// The first count numbers of a list, a space before each.
-pub fn put_list(out: &mut [u8], at: usize, list: &[i64], count: usize) -> usize
-    requires { (count ≤ length list.now) × (at + 20 * count ≤ length out.old) }
-    ensures { (out.new ≡ sets out.old at (spaced (map nat_of (take count list.now)))) × (result ≡ at + length (spaced (map nat_of (take count list.now)))) × (result ≤ at + 20 * count) }
+// The numbers of a list, a space before each.
+pub fn put_list(out: &mut [u8], list: &[i64]) -> usize
+    requires { 20 * length list.now ≤ length out.old }
+    ensures { (out.new ≡ over (spaced (map nat_of list.now)) out.old) × (result ≡ length (spaced (map nat_of list.now))) × (result ≤ 20 * length list.now) }
 {
-    let mut end = at;
-    let mut i = 0;
-    while i < count {
-        let n = natural(list[i]);
-        end = put_next(out, end, n);
-        i += 1;
+    let mut end = 0;
+    for n in list {
+        end += put_next(&mut out[end..], natural(*n));
     }
     end
 }

@@ -1,24 +1,40 @@
-// The bytes of a line, held as they come: the first so many of those lent, and never more than are lent.
-ghost use Rattle.std.specs.Prelude.{◌≡◌, take};
-ghost use Rattle.line_text.specs.Held.{holding, held_on};
+// The bytes of a line, held as they come, and never more than there is room for.
+ghost use Rattle.std.specs.Prelude.{◌≡◌, length, take};
+ghost use Rattle.line_text.specs.Held.{holding, held_line, held_on};
 
-// One byte more, held where there is room and else passed over: how many are held then.
-pub fn hold(held: &mut [u8], count: usize, byte: u8) -> usize
-    ensures { holding held.new result ≡ held_on byte (holding held.old count) }
-{
-    if count < held.len() {
-        held[count] = byte;
-        return count + 1;
+// Room for the bytes of a line, and how many are held; a count past the room holds them all.
+#[derive(Drop)]
+pub struct Held<const N: usize> {
+    pub bytes: [u8; N],
+    pub count: usize,
+
+    // True of any such array, and known by this where a line is a part of something else.
+    pub ghost whole: { length bytes ≡ N },
+}
+
+impl<const N: usize> Held<N> {
+    // One byte more, held where there is room and else passed over.
+    #[tactic(auto, unfolding(crate::specs::Held::held_on))]
+    pub fn push(&mut self, byte: u8)
+        ensures { holding self.new.bytes self.new.count ≡ held_on byte (holding self.old.bytes self.old.count) }
+    {
+        if self.count < self.bytes.len() {
+            self.bytes[self.count] = byte;
+            self.count += 1;
+        }
     }
-    count
+
+    // The bytes that are held.
+    pub fn line(&self) -> &[u8]
+        ensures { result.now ≡ held_line (holding self.now.bytes self.now.count) }
+    {
+        front(&self.bytes, self.count)
+    }
 }
 
 // The first count bytes, or all where there are no more.
 pub fn front<'a>(bytes: &'a [u8], count: usize) -> &'a [u8]
     ensures { result.now ≡ take count bytes.now }
 {
-    if count < bytes.len() {
-        return &bytes[..count];
-    }
-    bytes
+    bytes.get(..count).unwrap_or(bytes)
 }

@@ -3,7 +3,6 @@ use Prim.Native.Nat.{ℕ}
 use native.Mathlib.Omega.{arith}
 use mathlib.Core.Path.{◌≡◌, refl, sym, ap, ◌∙◌, subst}
 use mathlib.Core.List.{List, [], ◌++◌, append-nil}
-use lib.IntN.{ℤ}
 use lib.ListN.{length, take, drop, drop_of_length-le}
 use borrow.Author.Tests.{le-ltb}
 use Rattle.outcome.specs.Lent.{over}
@@ -11,7 +10,8 @@ use Rattle.proxy_record.specs.State.{fresh_proxy}
 use Rattle.proxy_record.specs.Words.{proxy_size, proxy_words}
 use Rattle.proxy_record.proofs.RulesLaws.{ok_fresh, good_of}
 use Rattle.writer_proxy.specs.SetUp.{set_up_proxy}
-use Rattle.replay_lines.specs.Feed.{Feeding, feeding, fed_through, said_through, lacking, FedWith}
+use Rattle.replay_lines.specs.Feed.{Feeding, lent, fed_through, said_through, lacking, FedWith}
+use Rattle.replay_lines.specs.declared.feed.Kept.{Kept}
 use Rattle.replay_lines.proofs.FeedLaws.{fed_append}
 use Rattle.replay.specs.Run.{FedFront, FedSome, RanToEnd}
 
@@ -26,19 +26,14 @@ fresh_words w u e p =
     let rest : drop (length (proxy_words fresh_proxy)) w ≡ [] = drop_of_length-le w {i = length (proxy_words fresh_proxy)} (omega (arith, long, e)) in
     p ∙ rw (le-ltb (length w) proxy_size (omega (arith, e)), rest) (append-nil (proxy_words fresh_proxy))
 
-pub ran_fresh : (w : List ℕ) (list₀ : List ℤ) (held₀ words : List ℕ) (list : List ℤ) (held out : List ℕ) → w ≡ proxy_words fresh_proxy
-    → RanToEnd (feeding w list₀ held₀ 0) words list held out → RanToEnd (feeding (proxy_words fresh_proxy) list₀ held₀ 0) words list held out
-ran_fresh w list₀ held₀ words list held out e = subst (λ (v : List ℕ). RanToEnd (feeding v list₀ held₀ 0) words list held out) e
-
-pub front_fed : (input piece : List ℕ) (n : ℕ) (r s : Feeding) → piece ≡ take n input → s ≡ fed_through piece r → FedFront input r s
-front_fed input piece n r s e p = (n, p ∙ ap (λ (b : List ℕ). fed_through b r) e)
+pub ran_fresh : (w : List ℕ) (kept : Kept) (after : Feeding) (out : List ℕ) → w ≡ proxy_words fresh_proxy → RanToEnd (lent w kept) after out → RanToEnd (lent (proxy_words fresh_proxy) kept) after out
+ran_fresh w kept after out e = subst (λ (v : List ℕ). RanToEnd (lent v kept) after out) e
 
 pub front_some : (input : List ℕ) (r s : Feeding) → FedFront input r s → FedSome r s
 front_some input r s a = (take a.0 input, a.1)
 
-pub ran_to_end : (r s : Feeding) (wrote : ℕ) (words : List ℕ) (list : List ℤ) (held out out' : List ℕ) → FedSome r s → FedWith 0 wrote words list held out out' (lacking s) s
-    → RanToEnd r words list held out'
-ran_to_end r s wrote words list held out out' a w = record {
+pub ran_to_end : (r s after : Feeding) (wrote : ℕ) (out out' : List ℕ) → FedSome r s → FedWith wrote after out out' (lacking s) s → RanToEnd r after out'
+ran_to_end r s after wrote out out' a w = record {
   input = a.0;
   before = out;
   fed_is = w.fed_is ∙ ap (λ (u : Feeding). fed_through (lacking u) u) a.1;

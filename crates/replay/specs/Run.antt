@@ -1,7 +1,7 @@
 -- What is promised of the program's functions: some bytes were read, and no contract says which. Assumes nothing.
-use Rattle.std.specs.Prelude.{◌≡◌, List, ℕ, ℤ, take}
+use Rattle.std.specs.Prelude.{◌≡◌, List, ℕ, take}
 use Rattle.outcome.specs.Lent.{over}
-use Rattle.replay_lines.specs.Feed.{Feeding, feeding, fed_through, said_through, lacking}
+use Rattle.replay_lines.specs.Feed.{Feeding, fed_through, said_through, lacking}
 
 -- of what a read gave the first so many bytes were fed, and no other
 abbrev pub FedFront : List ℕ → Feeding → Feeding → Type 0
@@ -12,8 +12,8 @@ abbrev pub FedSome : Feeding → Feeding → Type 0
 FedSome r r' = (bytes : List ℕ) × (r' ≡ fed_through bytes r)
 
 -- some input was fed, and then the line feed that its last line may lack: what is lent after it, and what was said of that line feed, over what stood in the buffer
-pub record RanToEnd (r : Feeding) (words : List ℕ) (list : List ℤ) (held out : List ℕ) : Type 0 where
+pub record RanToEnd (r after : Feeding) (out : List ℕ) : Type 0 where
   pub input : List ℕ
   pub before : List ℕ
-  pub fed_is : feeding words list held 0 ≡ fed_through (lacking (fed_through input r)) (fed_through input r)
+  pub fed_is : after ≡ fed_through (lacking (fed_through input r)) (fed_through input r)
   pub out_is : out ≡ over (said_through (lacking (fed_through input r)) (fed_through input r)) before

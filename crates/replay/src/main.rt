@@ -2,26 +2,28 @@
 // Input and lines may have any length. The work is that of crate `replay_lines`; here it is fed and what it says is written.
 #![tactic(auto)]
 
-ghost use Rattle.std.specs.Prelude.{◌≡◌, ◌≤◌, length};
+ghost use Rattle.std.specs.Prelude.{◌≡◌, ◌≤◌, length, take};
 ghost use Rattle.outcome.specs.Lent.{over};
 ghost use Rattle.proxy_record.specs.State.{fresh_proxy};
 ghost use Rattle.proxy_record.specs.Words.{proxy_words};
 ghost use Rattle.proxy_record.specs.Rules.{GoodProxy};
-ghost use Rattle.replay_lines.specs.Feed.{piece_most, feeding, fed_through, said_through};
+ghost use Rattle.replay_lines.specs.Feed.{lent, fed_through, said_through};
 ghost use Rattle.replay.specs.Run.{FedFront, FedSome, RanToEnd};
 
-use line_text::hold::front;
+use line_text::hold::{Held, front};
 use proxy_record::layout::PROXY_WORDS;
 use replay_lines::answer::ROOM;
-use replay_lines::feed::{HELD, PIECE, SAID, close, feed};
+use replay_lines::feed::{HELD, Kept, PIECE, SAID, close, feed};
 use std::io::Read;
 use writer_proxy::set_up::set_up;
 
-// Whether the input is at its end, and how many bytes are held of a line.
+// All that the program works on: the proxy's record, what is kept from piece to piece, a piece of input, and the answers to its lines.
 #[derive(Drop)]
-struct Turn {
-    over: bool,
-    count: usize,
+struct Replay {
+    words: [u64; PROXY_WORDS],
+    kept: Kept,
+    input: [u8; PIECE],
+    out: [u8; SAID],
 }
 
 // Zeros, in which answers are then written.
@@ -31,145 +33,91 @@ fn said_buffer() -> [u8; SAID]
     [0; SAID]
 }
 
-// All of the bytes to standard output; a write that fails is passed over.
+// All of the bytes to standard output; a write that fails is passed over, so that the input is read to its end all the same.
 fn write(rt: &impl Print, bytes: &[u8]) {
-    match rt.write_all(bytes) {
-        Ok(()) => {}
-        Err(_) => {}
-    }
+    let _ = rt.write_all(bytes);
 }
 
 // How many bytes a read gave: none at the end of the input, and none where the read fails, which counts as the end.
 fn read(reader: &mut impl Read, input: &mut [u8; PIECE]) -> usize
     ensures { result ≤ length input.new }
 {
-    match reader.read(input) {
-        Ok(n) => n,
-        Err(_) => 0,
-    }
+    reader.read(input).unwrap_or(0)
 }
 
-// What a read gave, answered, all of it: how many bytes are held of the line that it ends in.
-fn replay_piece(
-    rt: &impl Print,
-    words: &mut [u64],
-    list: &mut [i64; ROOM],
-    held: &mut [u8; HELD],
-    count: usize,
-    piece: &[u8],
-    out: &mut [u8; SAID],
-) -> usize
-    requires { GoodProxy words.old × (length piece.now ≤ piece_most) }
-    ensures result_after { feeding words.new list.new held.new result ≡ fed_through piece.now (feeding words.old list.old held.old count) }
-    ensures out_after { out.new ≡ over (said_through piece.now (feeding words.old list.old held.old count)) out.old }
-    ensures good_proxy { GoodProxy words.new }
-{
-    let fed = feed(words, list, held, count, piece, out);
-    write(rt, front(out, fed.wrote));
-    fed.count
-}
-
-// A read, answered.
-fn replay_some(
-    reader: &mut impl Read,
-    rt: &impl Print,
-    words: &mut [u64],
-    list: &mut [i64; ROOM],
-    held: &mut [u8; HELD],
-    count: usize,
-    input: &mut [u8; PIECE],
-    out: &mut [u8; SAID],
-) -> Turn
-    requires { GoodProxy words.old }
-    ensures fed_front { FedFront input.new (feeding words.old list.old held.old count) (feeding words.new list.new held.new result.count) }
-    ensures good_proxy { GoodProxy words.new }
-{
-    let end = read(reader, input);
-    if end == 0 {
-        return Turn { over: true, count };
+impl Replay {
+    // What a read gave, the first so many bytes of the input, answered, all of it.
+    fn take_piece(&mut self, rt: &impl Print, end: usize)
+        requires { GoodProxy self.old.words }
+        ensures lent_after { lent self.new.words self.new.kept ≡ fed_through (take end self.old.input) (lent self.old.words self.old.kept) }
+        ensures out_after { self.new.out ≡ over (said_through (take end self.old.input) (lent self.old.words self.old.kept)) self.old.out }
+        ensures input_after { self.new.input ≡ self.old.input }
+        ensures good_proxy { GoodProxy self.new.words }
+    {
+        let piece = front(&self.input, end);
+        let fed = feed(&mut self.words, &mut self.kept, piece, &mut self.out);
+        write(rt, front(&self.out, fed.wrote));
     }
-    let piece = front(input, end);
-    let n = replay_piece(rt, words, list, held, count, piece, out);
-    Turn {
-        over: false,
-        count: n,
-    }
-}
 
-// All input: how many bytes are held of a last line. A proved loop has to end, and nothing says that the input does: no run uses its turns up.
-fn replay_input(
-    reader: &mut impl Read,
-    rt: &impl Print,
-    words: &mut [u64],
-    list: &mut [i64; ROOM],
-    held: &mut [u8; HELD],
-    input: &mut [u8; PIECE],
-    out: &mut [u8; SAID],
-) -> usize
-    requires { GoodProxy words.old }
-    ensures fed_some { FedSome (feeding words.old list.old held.old 0) (feeding words.new list.new held.new result) }
-    ensures good_proxy { GoodProxy words.new }
-{
-    let mut n = 0;
-    let mut turns = u64::MAX;
-    while turns > 0 {
-        let turn = replay_some(reader, rt, words, list, held, n, input, out);
-        n = turn.count;
-        if turn.over {
-            return n;
+    // A read, answered: whether the input goes on.
+    fn take_some(&mut self, reader: &mut impl Read, rt: &impl Print) -> bool
+        requires { GoodProxy self.old.words }
+        ensures fed_front { FedFront self.new.input (lent self.old.words self.old.kept) (lent self.new.words self.new.kept) }
+        ensures good_proxy { GoodProxy self.new.words }
+    {
+        let end = read(reader, &mut self.input);
+        if end > 0 {
+            self.take_piece(rt, end);
         }
-        turns -= 1;
+        end > 0
     }
-    n
-}
 
-// All input, and a last line that lacks its line feed.
-fn replay_all(
-    reader: &mut impl Read,
-    rt: &impl Print,
-    words: &mut [u64],
-    list: &mut [i64; ROOM],
-    held: &mut [u8; HELD],
-    input: &mut [u8; PIECE],
-    out: &mut [u8; SAID],
-)
-    requires { GoodProxy words.old }
-    ensures { RanToEnd (feeding words.old list.old held.old 0) words.new list.new held.new out.new }
-{
-    let n = replay_input(reader, rt, words, list, held, input, out);
-    let wrote = close(words, list, held, n, out);
-    write(rt, front(out, wrote));
-}
+    // All input. A proved loop has to end, and nothing says that the input does: no run uses its turns up.
+    fn take_input(&mut self, reader: &mut impl Read, rt: &impl Print)
+        requires { GoodProxy self.old.words }
+        ensures fed_some { FedSome (lent self.old.words self.old.kept) (lent self.new.words self.new.kept) }
+        ensures good_proxy { GoodProxy self.new.words }
+    {
+        for _ in 0..u64::MAX {
+            if !self.take_some(reader, rt) {
+                return;
+            }
+        }
+    }
 
-// The same from a fresh proxy on.
-fn replay(
-    reader: &mut impl Read,
-    rt: &impl Print,
-    words: &mut [u64; PROXY_WORDS],
-    list: &mut [i64; ROOM],
-    held: &mut [u8; HELD],
-    input: &mut [u8; PIECE],
-    out: &mut [u8; SAID],
-)
-    ensures { RanToEnd (feeding (proxy_words fresh_proxy) list.old held.old 0) words.new list.new held.new out.new }
-{
-    set_up(words);
-    replay_all(reader, rt, words, list, held, input, out);
+    // All input, and a last line that lacks its line feed.
+    fn take_all(&mut self, reader: &mut impl Read, rt: &impl Print)
+        requires { GoodProxy self.old.words }
+        ensures { RanToEnd (lent self.old.words self.old.kept) (lent self.new.words self.new.kept) self.new.out }
+    {
+        self.take_input(reader, rt);
+        let wrote = close(&mut self.words, &mut self.kept, &mut self.out);
+        write(rt, front(&self.out, wrote));
+    }
+
+    // The same from a fresh proxy on.
+    fn run(&mut self, reader: &mut impl Read, rt: &impl Print)
+        ensures { RanToEnd (lent (proxy_words fresh_proxy) self.old.kept) (lent self.new.words self.new.kept) self.new.out }
+    {
+        // These words are as many as a record has, so set-up takes them.
+        let _ = set_up(&mut self.words);
+        self.take_all(reader, rt);
+    }
 }
 
 fn main(rt: HostRuntime) {
-    let mut words = [0u64; PROXY_WORDS];
-    let mut list = [0i64; ROOM];
-    let mut held = [0u8; HELD];
-    let mut input = [0u8; PIECE];
-    let mut out = said_buffer();
-    replay(
-        &mut rt.reader(),
-        &rt,
-        &mut words,
-        &mut list,
-        &mut held,
-        &mut input,
-        &mut out,
-    );
+    let held = Held {
+        bytes: [0; HELD],
+        count: 0,
+    };
+    let mut replay = Replay {
+        words: [0; PROXY_WORDS],
+        kept: Kept {
+            list: [0; ROOM],
+            held,
+        },
+        input: [0; PIECE],
+        out: said_buffer(),
+    };
+    replay.run(&mut rt.reader(), &rt);
 }

@@ -1,32 +1,31 @@
--- Laws of `specs/Feed.antt`: runs of bytes, a byte's two ways in the code, how much bytes say, the loop over a piece, and the end of the input. Assumes nothing.
+-- Laws of `specs/Feed.antt`: runs of bytes, a byte's two ways in the code, how much bytes say, and the loop over a piece. Assumes nothing.
 use Prim.Native.Nat.{ℕ, suc, ◌+◌, ◌-◌, ◌*◌, ◌<◌, ◌≤◌}
 use mathlib.Core.Path.{◌≡◌, refl, sym, ap, subst, ◌∙◌}
 use mathlib.Core.Logic.{⊎_elim}
 use mathlib.Core.List.{List, [], ◌∷◌, ◌++◌, append_assoc, append-nil}
 use native.Mathlib.Omega.{arith}
 use native.Mathlib.Numerals.{add-one}
-use lib.ListN.{length, take, drop, get_or, length-append, length-drop, take-append-drop, drop_of_length-le}
-use lib.Seq.{drop-cons, drop-drop, drop-append-le, length-take-le, take_at, drop_at}
+use lib.ListN.{length, take, drop, get_or, length-append, length-drop, take-append-drop}
+use lib.Seq.{drop-append-le, length-take-le, take-suc}
 use lib.IntN.{ℤ}
-use borrow.Author.Tests.{lt-ltb, eq-eqb, ne_eqb}
+use borrow.Author.Tests.{eq-eqb, ne_eqb}
 use Rattle.outcome.specs.Lent.{over}
 use Rattle.outcome.specs.Outcome.{Outcome}
 use Rattle.outcome.proofs.Split.{split_eq}
 use Rattle.sequence_number.specs.Number.{top}
-use Rattle.line_text.specs.Held.{holding, held_line, held_on, held_through}
+use Rattle.line_text.specs.Held.{Holding, held_line, held_on, held_through}
 use Rattle.line_text.specs.Lines.{NoFeed}
 use Rattle.line_text.specs.Decimal.{started}
 use Rattle.line_text.proofs.HeldLaws.{held_room_lem, held_one, held_most}
-use Rattle.line_text.proofs.DecimalLaws.{length_one, length_most, length_head}
+use Rattle.line_text.proofs.DecimalLaws.{length_one, length_most, length_head, over_after}
 use Rattle.proxy_record.specs.State.{Proxy}
 use Rattle.proxy_record.specs.Rules.{GoodProxy}
 use Rattle.proxy_record.specs.Words.{proxy_of}
 use Rattle.replay_lines.specs.Frame.{parsed}
-use Rattle.replay_lines.specs.Answer.{missing_room, answer_most, step_of, text_of, LineAnswered}
-use Rattle.replay_lines.specs.Feed.{held_room, Feeding, line_does, line_goes_on, took, says, feeding, fed_through, said_through, lacking, FedWith}
-use Rattle.replay_lines.specs.Inner.{Stepped, said_most}
+use Rattle.replay_lines.specs.Answer.{answer_most, step_of, text_of, LineAnswered}
+use Rattle.replay_lines.specs.Feed.{held_room, Feeding, line_does, line_goes_on, took, says, feeding, fed_through, said_through, FedWith}
+use Rattle.replay_lines.specs.Inner.{said_most}
 use Rattle.replay_lines.specs.declared.frame.Frame.{Frame}
-use Rattle.replay_lines.specs.declared.feed.Held.{Held}
 use Rattle.replay_lines.proofs.FrameLaws.{parsed_length}
 
 -- Runs of bytes
@@ -65,24 +64,26 @@ fed_held (b ∷ bytes) r = fed_held bytes (took b r) ∙ took_held b r
 
 -- A byte
 
-module _ (words : List ℕ) (list : List ℤ) (held : List ℕ) (count b : ℕ) (out : List ℕ) where
-  pub step_ends : (n : ℕ) (words' : List ℕ) (list' : List ℤ) (out' : List ℕ) → b ≡ 10 → LineAnswered n words' list' out out' (line_does (feeding words list held count))
-      → Stepped (record { count = 0; wrote = n }) words' list' held out out' b (feeding words list held count)
+module _ (r : Feeding) (out : List ℕ) where
+  pub line_fed : (n : ℕ) (words : List ℕ) (list : List ℤ) (out' : List ℕ) → LineAnswered n words list out out' (line_does r)
+      → FedWith n (feeding words list r.held.bytes 0) out out' (10 ∷ []) r
   unfolding took says
-  step_ends n words' list' out' e d = record {
-    fed_is = rw (eq-eqb b 10 e) (λ i. feeding (d.words_are i) (d.list_is i) held 0);
-    out_is = rw (eq-eqb b 10 e) d.wrote.line;
-    wrote_is = rw (eq-eqb b 10 e) d.wrote.count;
-  }
+  line_fed n words list out' d =
+      let t = text_of (line_does r) in
+      record {
+        fed_is = λ i. feeding (d.words_are i) (d.list_is i) r.held.bytes 0;
+        out_is = d.wrote.line ∙ ap (λ (l : List ℕ). over l out) (sym (append-nil t));
+        wrote_is = d.wrote.count ∙ ap length (sym (append-nil t));
+      }
 
-  pub step_goes_on : (held' : List ℕ) (n : ℕ) → (b ≡ 10 → ⊥) → holding held' n ≡ held_on b (holding held count)
-      → Stepped (record { count = n; wrote = 0 }) words list held' out out b (feeding words list held count)
-  unfolding took says
-  step_goes_on held' n e h = record {
-    fed_is = rw (ne_eqb b 10 e) (λ i. record { words = words; list = list; held = h i });
-    out_is = rw (ne_eqb b 10 e);
-    wrote_is = rw (ne_eqb b 10 e);
-  }
+  pub byte_held : (b : ℕ) (held : Holding) → (b ≡ 10 → ⊥) → held ≡ held_on b r.held → FedWith 0 (record { words = r.words; list = r.list; held = held }) out out (b ∷ []) r
+  byte_held b held e h =
+      let t = byte_goes_on b e r in
+      record {
+        fed_is = (λ i. record { words = r.words; list = r.list; held = h i }) ∙ sym t.1;
+        out_is = ap (λ (l : List ℕ). over l out) (sym (append-nil (says b r) ∙ t.0));
+        wrote_is = ap length (sym (append-nil (says b r) ∙ t.0));
+      }
 
 -- How much is said
 
@@ -118,104 +119,52 @@ over_part t x m h k =
     append_assoc t (drop (length t) (take m x)) (drop m x)
     ∙ ap (λ (l : List ℕ). t ++ l) (sym (drop-append-le (length t) (take m x) (drop m x) (omega (arith, length-take-le m x k))) ∙ ap (drop (length t)) (take-append-drop m x))
 
--- where the loop over a piece is
-pub record Going (r₀ : Feeding) (piece out₀ : List ℕ) (i : ℕ) (words : List ℕ) (list : List ℤ) (held : List ℕ) (n wrote : ℕ) (out : List ℕ) : Type 0 where
-  pub within : i ≤ length piece
-  pub good : GoodProxy words
-  pub list_long : missing_room ≤ length list
-  pub out_whole : length out ≡ length out₀
-  pub past : drop wrote out ≡ drop wrote out₀
-  pub few : wrote + 148 * length (take n held) ≤ 148 * (i + held_room)
-  pub run : fed_through (drop i piece) (feeding words list held n) ≡ fed_through piece r₀
-  pub said : take wrote out ++ said_through (drop i piece) (feeding words list held n) ≡ said_through piece r₀
+-- where the loop over a piece is: its first i bytes were fed
+pub record Going (r₀ : Feeding) (piece out₀ : List ℕ) (i : ℕ) (r : Feeding) (wrote : ℕ) (out : List ℕ) : Type 0 where
+  pub fed : FedWith wrote r out₀ out (take i piece) r₀
+  pub good : GoodProxy r.words
+  pub few : wrote + 148 * length (held_line r.held) ≤ 148 * (i + held_room)
 
 module _ (r₀ : Feeding) (piece out₀ : List ℕ) (enough_out : said_most (length piece) ≤ length out₀) where
-  pub going_first : (words : List ℕ) (list : List ℤ) (held : List ℕ) (count : ℕ) → r₀ ≡ feeding words list held count → GoodProxy words → missing_room ≤ length list → length held ≡ held_room
-      → Going r₀ piece out₀ 0 words list held count 0 out₀
-  going_first words list held count e g a b = record {
-    within = omega arith;
-    good = g;
-    list_long = a;
-    out_whole = refl;
-    past = refl;
-    few = omega (arith, held_most (holding held count));
-    run = ap (fed_through piece) (sym e);
-    said = ap (said_through piece) (sym e);
-  }
+  pub going_first : GoodProxy r₀.words → length r₀.held.bytes ≡ held_room → Going r₀ piece out₀ 0 r₀ 0 out₀
+  going_first g b = record { fed = record { fed_is = refl; out_is = refl; wrote_is = refl }; good = g; few = omega (arith, held_most r₀.held) }
 
-  module _ (i : ℕ) (words : List ℕ) (list : List ℤ) (held : List ℕ) (n wrote : ℕ) (out : List ℕ) (g : Going r₀ piece out₀ i words list held n wrote out) where
-    -- the loop's end
-    pub going_last : i ≡ length piece → FedWith n wrote words list held out₀ out piece r₀
-    going_last e =
-        let d : drop i piece ≡ [] = drop_of_length-le piece {i = i} (omega arith) in
-        let w : wrote ≤ length out = omega (arith, g.few, g.out_whole) in
-        let t : take wrote out ≡ said_through piece r₀ = sym (append-nil (take wrote out)) ∙ ap (λ (l : List ℕ). take wrote out ++ said_through l (feeding words list held n)) (sym d) ∙ g.said in
-        record {
-          fed_is = ap (λ (l : List ℕ). fed_through l (feeding words list held n)) (sym d) ∙ g.run;
-          out_is =
-              sym (take-append-drop wrote out) ∙ (λ j. t j ++ (g.past ∙ ap (λ (k : ℕ). drop k out₀) (sym (length-take-le wrote out w) ∙ ap length t)) j);
-          wrote_is = sym (length-take-le wrote out w) ∙ ap length t;
-        }
+  module _ (i : ℕ) (r : Feeding) (wrote : ℕ) (out : List ℕ) (g : Going r₀ piece out₀ i r wrote out) where
+    module _ (h : i < length piece) (whole : length out ≡ length out₀) where
+      pub room_left : wrote + answer_most ≤ length out
+      room_left = omega (arith, g.few)
 
-    pub room_left : i < length piece → wrote + answer_most ≤ length out
-    room_left h = omega (arith, g.few, g.out_whole)
-
-    -- one byte more
-    pub going_on : (h : i < length piece) (words' : List ℕ) (list' : List ℤ) (held' part : List ℕ) (s : Held)
-        → length part ≡ length (take ((wrote + answer_most) - wrote) (drop wrote out)) → length list' ≡ length list → GoodProxy words'
-        → Stepped s words' list' held' (take ((wrote + answer_most) - wrote) (drop wrote out)) part (get_or piece i 0) (feeding words list held n)
-        → (wrote + s.wrote ≤ length out) × Going r₀ piece out₀ (i + 1) words' list' held' s.count (wrote + s.wrote) (take wrote out ++ (part ++ drop ((wrote + answer_most) - wrote) (drop wrote out)))
-    going_on h words' list' held' part s k lk good st =
-        let b = get_or piece i 0 in
-        let r = feeding words list held n in
-        let t = says b r in
-        let m = (wrote + answer_most) - wrote in
-        let x = drop wrote out in
-        let left : wrote + answer_most ≤ length out = room_left h in
-        let m_is : m ≡ answer_most = omega arith in
-        let lx : length x ≡ length out - wrote = length-drop wrote out in
-        let lm : length (take m x) ≡ m = length-take-le m x (omega arith) in
-        let fits : length t ≤ answer_most = omega (arith, says_fit t (take m x) part st.out_is k) in
-        let back : part ++ drop m x ≡ over t x = ap (λ (l : List ℕ). l ++ drop m x) st.out_is ∙ over_part t x m (omega arith) (omega arith) in
-        let a = take wrote out in
-        let la : length a ≡ wrote = length-take-le wrote out (omega arith) in
-        let rest = drop (length t) x in
-        let w : length (a ++ t) ≡ wrote + s.wrote = omega (arith, length-append a t, st.wrote_is) in
-        let whole : a ++ (part ++ drop m x) ≡ (a ++ t) ++ rest = ap (λ (l : List ℕ). a ++ l) back ∙ sym (append_assoc a t rest) in
-        let front : take (wrote + s.wrote) (a ++ (part ++ drop m x)) ≡ a ++ t = ap (take (wrote + s.wrote)) whole ∙ take_at (a ++ t) rest (wrote + s.wrote) w in
-        let c : drop i piece ≡ b ∷ drop (i + 1) piece = drop-cons piece i 0 h ∙ ap (λ (j : ℕ). b ∷ drop j piece) (sym (add-one i)) in
-        let counted : length (take s.count held') ≡ length (held_line (took b r).held) = ap (λ (y : Feeding). length (held_line y.held)) st.fed_is in (
-          omega (arith, st.wrote_is),
-          record {
-            within = omega arith;
-            good = good;
-            list_long = omega (arith, g.list_long);
-            out_whole = ap length whole ∙ length-append (a ++ t) rest ∙ omega (arith, w, length-drop (length t) x, st.wrote_is, g.out_whole);
-            past =
-                ap (drop (wrote + s.wrote)) whole ∙ drop_at (a ++ t) rest (wrote + s.wrote) w ∙ ap (drop (length t)) g.past ∙ drop-drop (length t) wrote out₀
-                ∙ ap (λ (j : ℕ). drop (wrote + j) out₀) (sym st.wrote_is);
-            few = omega (arith, g.few, counted, st.wrote_is, byte_says b r g.good fits);
-            run = ap (fed_through (drop (i + 1) piece)) st.fed_is ∙ ap (λ (l : List ℕ). fed_through l r) (sym c) ∙ g.run;
-            said =
-                (λ j. front j ++ said_through (drop (i + 1) piece) (st.fed_is j)) ∙ append_assoc a t (said_through (drop (i + 1) piece) (took b r))
-                ∙ ap (λ (l : List ℕ). a ++ said_through l r) (sym c) ∙ g.said;
-          },
-        )
-
--- The end of the input
-
-module _ (words : List ℕ) (list : List ℤ) (held : List ℕ) (count : ℕ) (out : List ℕ) where
-  pub closed_none : count ≡ 0 → FedWith 0 0 words list held out out (lacking (feeding words list held count)) (feeding words list held count)
-  closed_none e = rw e (record { fed_is = refl; out_is = refl; wrote_is = refl })
-
-  pub closed_line : (n : ℕ) (words' : List ℕ) (list' : List ℤ) (out' : List ℕ) → (count ≡ 0 → ⊥) → LineAnswered n words' list' out out' (line_does (feeding words list held count))
-      → FedWith 0 n words' list' held out out' (lacking (feeding words list held count)) (feeding words list held count)
-  unfolding took says
-  closed_line n words' list' out' e d =
-      let t = text_of (line_does (feeding words list held count)) in
-      rw (lt-ltb 0 count (omega arith))
-      (record {
-        fed_is = λ i. feeding (d.words_are i) (d.list_is i) held 0;
-        out_is = d.wrote.line ∙ ap (λ (l : List ℕ). over l out) (sym (append-nil t));
-        wrote_is = d.wrote.count ∙ ap length (sym (append-nil t));
-      })
+      -- one byte more
+      pub going_on : (n : ℕ) (r' : Feeding) (part : List ℕ) → length part ≡ length (take ((wrote + answer_most) - wrote) (drop wrote out)) → GoodProxy r'.words
+          → FedWith n r' (take ((wrote + answer_most) - wrote) (drop wrote out)) part (get_or piece i 0 ∷ []) r
+          → (wrote + n ≤ length out) × Going r₀ piece out₀ (i + 1) r' (wrote + n) (take wrote out ++ (part ++ drop ((wrote + answer_most) - wrote) (drop wrote out)))
+      going_on n r' part k good st =
+          let b = get_or piece i 0 in
+          let a = take i piece in
+          let s = said_through a r₀ in
+          let t = said_through (b ∷ []) r in
+          let m = (wrote + answer_most) - wrote in
+          let x = drop wrote out in
+          let e : says b r ≡ t = sym (append-nil (says b r)) in
+          let lx : length x ≡ length out - wrote = length-drop wrote out in
+          let lm : length (take m x) ≡ m = length-take-le m x (omega (arith, room_left)) in
+          let fits : length t ≤ answer_most = omega (arith, says_fit t (take m x) part st.out_is k) in
+          let back : part ++ drop m x ≡ over t x = ap (λ (l : List ℕ). l ++ drop m x) st.out_is ∙ over_part t x m (omega arith) (omega (arith, room_left)) in
+          let c : take (i + 1) piece ≡ a ++ (b ∷ []) = rw add-one (take-suc piece i 0 h) in
+          let w : said_through (take (i + 1) piece) r₀ ≡ s ++ t =
+          ap (λ (l : List ℕ). said_through l r₀) c ∙ said_append a (b ∷ []) r₀ ∙ ap (λ (y : Feeding). s ++ said_through (b ∷ []) y) (sym g.fed.fed_is) in
+          let held : length (held_line r'.held) ≡ length (held_line (took b r).held) = ap (λ (y : Feeding). length (held_line y.held)) st.fed_is in
+          let says_few = byte_says b r g.good (omega (arith, ap length e)) in (
+            omega (arith, st.wrote_is, room_left),
+            record {
+              fed = record {
+                fed_is =
+                    st.fed_is ∙ ap (fed_through (b ∷ [])) g.fed.fed_is ∙ sym (fed_append a (b ∷ []) r₀) ∙ ap (λ (l : List ℕ). fed_through l r₀) (sym c);
+                out_is =
+                    ap (λ (l : List ℕ). take wrote out ++ l) back ∙ over_after s t out₀ out wrote g.fed.wrote_is g.fed.out_is ∙ ap (λ (l : List ℕ). over l out₀) (sym w);
+                wrote_is = omega (arith, ap length w, length-append s t, g.fed.wrote_is, st.wrote_is);
+              };
+              good = good;
+              few = omega (arith, g.few, held, st.wrote_is, ap length e, says_few);
+            },
+          )

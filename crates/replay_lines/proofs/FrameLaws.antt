@@ -1,41 +1,39 @@
 -- Laws of `specs/Frame.antt`: one for each answer of the code. Assumes nothing.
 use Prim.Native.Nat.{ℕ}
-use mathlib.Core.Path.{◌≡◌, ap, ◌∙◌}
+use mathlib.Core.Path.{◌≡◌}
 use mathlib.Core.Logic.{⊎_elim}
 use mathlib.Core.Bool.{true, false}
 use mathlib.Core.List.{List}
+use Rattle.std.specs.Prelude.{Result, Ok, Err}
 use lib.ListN.{length}
 use lib.IntN.{ℤ}
 use mir.Syntax.{w64}
-use mir.Val.{Fits, of_z, to_z}
-use mir.Facts.{of_z-to_z}
+use mir.Val.{to_z}
 use borrow.Author.Tests.{eq-eqb, ne_eqb}
 use Rattle.outcome.specs.Outcome.{refused}
 use Rattle.outcome.proofs.Split.{split, split_eq}
 use Rattle.line_text.specs.Hex.{all_hex, value_at}
-use Rattle.replay_lines.specs.Frame.{parsed_said, frame_of, parsed}
+use Rattle.outcome.specs.Refusal.{said}
+use Rattle.outcome.specs.declared.Refusal.{Refusal}
+use Rattle.outcome.specs.declared.Refusal.TheVariants.{EndsEarly}
+use Rattle.replay_lines.specs.Frame.{frame_of, parsed}
+use Rattle.replay_lines.specs.declared.frame.Frame.{Frame}
 use Rattle.replay_lines.specs.declared.frame.Frame.TheVariants.{Received, Range, Missing}
-use Rattle.replay_lines.specs.declared.frame.Parsed.{Parsed}
-use Rattle.replay_lines.specs.declared.frame.Parsed.TheVariants.{Malformed, Reads}
 
--- a signed number as it comes out of a call
-pub read_back : (n : ℤ) (a : ℕ) → Fits w64 a → n ≡ to_z w64 a → to_z w64 (of_z w64 n) ≡ to_z w64 a
-read_back n a f e = ap (λ (z : ℤ). to_z w64 (of_z w64 z)) e ∙ ap (to_z w64) (of_z-to_z {w = w64} f)
-
-pub frame_received : (kind a b : ℕ) (n : ℤ) → kind ≡ 1 → n ≡ to_z w64 a → Reads (Received n b) ≡ frame_of kind a b
+pub frame_received : (kind a b : ℕ) (n : ℤ) → kind ≡ 1 → n ≡ to_z w64 a → Ok (Received n b) ≡ frame_of kind a b
 unfolding frame_of
 frame_received kind a b n k e = rw (eq-eqb kind 1 k, e)
 
 module _ (kind a b : ℕ) (n m : ℤ) where
-  pub frame_range : (kind ≡ 1 → ⊥) → kind ≡ 2 → n ≡ to_z w64 a → m ≡ to_z w64 b → Reads (Range n m) ≡ frame_of kind a b
+  pub frame_range : (kind ≡ 1 → ⊥) → kind ≡ 2 → n ≡ to_z w64 a → m ≡ to_z w64 b → Ok (Range n m) ≡ frame_of kind a b
   unfolding frame_of
   frame_range j k e f = rw (ne_eqb kind 1 j, eq-eqb kind 2 k, e, f)
 
-  pub frame_missing : (kind ≡ 1 → ⊥) → (kind ≡ 2 → ⊥) → kind ≡ 3 → n ≡ to_z w64 a → m ≡ to_z w64 b → Reads (Missing n m) ≡ frame_of kind a b
+  pub frame_missing : (kind ≡ 1 → ⊥) → (kind ≡ 2 → ⊥) → kind ≡ 3 → n ≡ to_z w64 a → m ≡ to_z w64 b → Ok (Missing n m) ≡ frame_of kind a b
   unfolding frame_of
   frame_missing i j k e f = rw (ne_eqb kind 1 i, ne_eqb kind 2 j, eq-eqb kind 3 k, e, f)
 
-pub frame_other : (kind a b : ℕ) → (kind ≡ 1 → ⊥) → (kind ≡ 2 → ⊥) → (kind ≡ 3 → ⊥) → Malformed ≡ frame_of kind a b
+pub frame_other : (kind a b : ℕ) → (kind ≡ 1 → ⊥) → (kind ≡ 2 → ⊥) → (kind ≡ 3 → ⊥) → Err EndsEarly ≡ frame_of kind a b
 unfolding frame_of
 frame_other kind a b i j k = rw (ne_eqb kind 1 i, ne_eqb kind 2 j, ne_eqb kind 3 k)
 
@@ -48,13 +46,13 @@ module _ (line : List ℕ) where
   unfolding parsed
   parsed_digit n a = rw (eq-eqb (length line) 34 n, a)
 
-  pub parsed_frame : length line ≡ 34 → all_hex line ≡ true → parsed_said (frame_of (value_at line 0 2) (value_at line 2 16) (value_at line 18 16)) ≡ parsed line
+  pub parsed_frame : length line ≡ 34 → all_hex line ≡ true → said (frame_of (value_at line 0 2) (value_at line 2 16) (value_at line 18 16)) ≡ parsed line
   unfolding parsed
   parsed_frame n a = rw (eq-eqb (length line) 34 n, a)
 
   -- every line is read as some answer of the code
-  pub parsed_as : (p : Parsed) × (parsed_said p ≡ parsed line)
+  pub parsed_as : (p : Result Frame Refusal) × (said p ≡ parsed line)
   parsed_as =
-      ⊎_elim (λ n. split (all_hex line) (λ a. (frame_of (value_at line 0 2) (value_at line 2 16) (value_at line 18 16), parsed_frame n a)) (λ a. (Malformed, parsed_digit n a)))
-      (λ n. (Malformed, parsed_length n))
+      ⊎_elim (λ n. split (all_hex line) (λ a. (frame_of (value_at line 0 2) (value_at line 2 16) (value_at line 18 16), parsed_frame n a)) (λ a. (Err EndsEarly, parsed_digit n a)))
+      (λ n. (Err EndsEarly, parsed_length n))
       (split_eq (length line) 34)

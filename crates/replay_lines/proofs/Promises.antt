@@ -152,7 +152,7 @@ pieces_said (piece ∷ pieces) r =
 -- calls of `feed` write what the bytes of their input say, however it is cut
 pub calls_said : {input text : List ℕ} {r end : Feeding} → FeedCalls input r text end → (text ≡ said_through input r) × (end ≡ fed_through input r)
 calls_said (replay.FeedCalls.finished r) = (refl, refl)
-calls_said (replay.FeedCalls.call {r = r} {end = end} piece rest out words list held out' f {text = text} p k) =
+calls_said (replay.FeedCalls.call {r = r} {end = end} piece rest out out' f {text = text} p k) =
     let a = take piece_most piece in
     let b = drop f.taken piece ++ rest in
     let w = p.fed_with in
@@ -165,8 +165,8 @@ calls_said (replay.FeedCalls.call {r = r} {end = end} piece rest out words list 
     )
 
 -- the whole of it: calls of `feed` over an input, and `close` after them, write the answers to its lines
-pub calls_answer : {input text : List ℕ} {r end : Feeding} {wrote : ℕ} {words : List ℕ} {list : List ℤ} {held out out' : List ℕ} → BetweenLines r → FeedCalls input r text end
-    → FedWith 0 wrote words list held out out' (lacking end) end → text ++ take wrote out' ≡ replayed (lines_of input) (proxy_of r.words)
+pub calls_answer : {input text : List ℕ} {r end after : Feeding} {wrote : ℕ} {out out' : List ℕ} → BetweenLines r → FeedCalls input r text end → FedWith wrote after out out' (lacking end) end
+    → text ++ take wrote out' ≡ replayed (lines_of input) (proxy_of r.words)
 calls_answer {input = input} {r = r} {end = end} {wrote = wrote} {out = out} p c w =
     let t = calls_said c in
     let s = said_through (lacking end) end in

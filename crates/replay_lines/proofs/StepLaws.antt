@@ -13,6 +13,7 @@ use mir.Facts.{sfits_to_z}
 use borrow.Author.Tests.{ltb-false, eqb-true, eqb-false}
 use Rattle.sequence_number.specs.Number.{top, nat_of}
 use Rattle.outcome.specs.Outcome.{Outcome, refused, done}
+use Rattle.outcome.specs.Refusal.{said}
 use Rattle.outcome.proofs.Split.{split}
 use Rattle.proxy_record.specs.State.{Proxy, cap}
 use Rattle.proxy_record.specs.Rules.{ProxyRules}
@@ -20,7 +21,7 @@ use Rattle.writer_proxy.specs.Missing.{missing_numbers, missing_listed}
 use Rattle.writer_proxy.proofs.Promises.{received_keeps_rules, range_keeps_rules}
 use Rattle.line_text.specs.Decimal.{line_of}
 use Rattle.line_text.specs.Hex.{all_hex}
-use Rattle.replay_lines.specs.Frame.{parsed_said, frame_of, parsed}
+use Rattle.replay_lines.specs.Frame.{frame_of, parsed}
 use Rattle.replay_lines.specs.Answer.{missing_room, counted, step_of, text_of}
 use Rattle.replay_lines.specs.declared.frame.Frame.{Frame}
 use Rattle.replay_lines.specs.declared.frame.Frame.TheVariants.{Received, Range, Missing}
@@ -30,7 +31,7 @@ use Rattle.replay_lines.proofs.FrameLaws.{parsed_length, parsed_digit, parsed_fr
 -- The rules
 
 module _ (s : Proxy) (list : List ℤ) (o : ProxyRules cap s) where
-  frame_keeps : (kind a b : ℕ) → b < 2 ^ 64 → ProxyRules cap (step_of (parsed_said (frame_of kind a b)) s list).state
+  frame_keeps : (kind a b : ℕ) → b < 2 ^ 64 → ProxyRules cap (step_of (said (frame_of kind a b)) s list).state
   unfolding step_of frame_of
   frame_keeps kind a b h =
       split (eqb kind 1) (λ e. rw e (received_keeps_rules (to_z w64 a) b s o))

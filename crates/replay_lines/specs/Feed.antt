@@ -5,6 +5,7 @@ use Rattle.line_text.specs.Held.{Holding, holding, held_line, held_on}
 use Rattle.proxy_record.specs.Words.{proxy_words, proxy_of}
 use Rattle.replay_lines.specs.Frame.{parsed}
 use Rattle.replay_lines.specs.Answer.{Step, step_of, text_of}
+use Rattle.replay_lines.specs.declared.feed.Kept.{Kept}
 use Rattle.replay_lines.specs.declared.feed.Fed.{Fed}
 
 -- how many bytes are held of a line: one more than a line that reads has, so a longer line is seen not to read
@@ -23,6 +24,9 @@ pub record Feeding : Type 0 where
 
 abbrev pub feeding : List ℕ → List ℤ → List ℕ → ℕ → Feeding
 feeding words list held count = record { words = words; list = list; held = holding held count }
+
+abbrev pub lent : List ℕ → Kept → Feeding
+lent words kept = feeding words kept.list kept.held.bytes kept.held.count
 
 -- what the line that is held does
 abbrev pub line_does : Feeding → Step
@@ -58,12 +62,12 @@ lacking r = cond (ltb 0 r.held.count) (10 ∷ []) []
 
 -- What is promised of bytes that were fed: what is lent after them, and what was said, from the buffer's front
 
-pub record FedWith (count wrote : ℕ) (words : List ℕ) (list : List ℤ) (held out out' bytes : List ℕ) (r : Feeding) : Type 0 where
-  pub fed_is : feeding words list held count ≡ fed_through bytes r
+pub record FedWith (wrote : ℕ) (after : Feeding) (out out' bytes : List ℕ) (r : Feeding) : Type 0 where
+  pub fed_is : after ≡ fed_through bytes r
   pub out_is : out' ≡ over (said_through bytes r) out
   pub wrote_is : wrote ≡ length (said_through bytes r)
 
 -- of a piece: its first bytes were taken, all where it has no more than are taken at once
-pub record PieceFed (f : Fed) (words : List ℕ) (list : List ℤ) (held out out' piece : List ℕ) (r : Feeding) : Type 0 where
+pub record PieceFed (f : Fed) (after : Feeding) (out out' piece : List ℕ) (r : Feeding) : Type 0 where
   pub taken_is : f.taken ≡ length (take piece_most piece)
-  pub fed_with : FedWith f.count f.wrote words list held out out' (take piece_most piece) r
+  pub fed_with : FedWith f.wrote after out out' (take piece_most piece) r

@@ -4,7 +4,7 @@ use Rattle.proxy_record.specs.State.{Proxy}
 use Rattle.proxy_record.specs.Rules.{GoodProxy}
 use Rattle.replay_lines.specs.Frame.{parsed}
 use Rattle.replay_lines.specs.Answer.{Step, missing_room, step_of, text_of}
-use Rattle.replay_lines.specs.Feed.{held_room, Feeding, feeding, fed_through, said_through, PieceFed}
+use Rattle.replay_lines.specs.Feed.{held_room, Feeding, fed_through, said_through, PieceFed}
 use Rattle.replay_lines.specs.declared.feed.Fed.{Fed}
 
 -- a list with just the room that document 01 gives
@@ -40,6 +40,5 @@ said_each (piece ∷ pieces) r = said_through piece r ++ said_each pieces (fed_t
 -- The input, what is lent at first, all bytes that the calls wrote, and what is lent in the end.
 pub data FeedCalls : List ℕ → Feeding → List ℕ → Feeding → Type 0 where
   finished : (r : Feeding) → FeedCalls [] r [] r
-  call : {r end : Feeding} (piece rest out words : List ℕ) (list : List ℤ) (held out' : List ℕ) (f : Fed) {text : List ℕ}
-      → PieceFed f words list held out out' piece r → FeedCalls (drop f.taken piece ++ rest) (feeding words list held f.count) text end
+  call : {r after end : Feeding} (piece rest out out' : List ℕ) (f : Fed) {text : List ℕ} → PieceFed f after out out' piece r → FeedCalls (drop f.taken piece ++ rest) after text end
       → FeedCalls (piece ++ rest) r (take f.wrote out' ++ text) end

@@ -1,8 +1,8 @@
 // A line done on a proxy's record, and its answer line in a lent buffer.
-ghost use Rattle.std.specs.Prelude.{◌≡◌, [], ◌∷◌, map, ◌≤◌, length, take};
-ghost use Rattle.std.proofs.lemmas.List.Edits.{sets};
+ghost use Rattle.std.specs.Prelude.{◌≡◌, [], ◌∷◌, map, ◌≤◌, length};
 ghost use Rattle.sequence_number.specs.Number.{top, nat_of};
 ghost use Rattle.outcome.specs.Outcome.{refusal, done};
+ghost use Rattle.outcome.specs.Lent.{over};
 ghost use Rattle.proxy_record.specs.Rules.{GoodProxy};
 ghost use Rattle.proxy_record.specs.Words.{proxy_of};
 ghost use Rattle.proxy_steps.specs.Steps.{report_said};
@@ -10,10 +10,10 @@ ghost use Rattle.line_text.specs.Decimal.{started};
 ghost use Rattle.replay_lines.specs.Frame.{parsed};
 ghost use Rattle.replay_lines.specs.Answer.{missing_room, answer_most, told_missing, step_of, LineWritten, LineAnswered};
 
-use crate::frame::{Frame, Parsed, parse};
+use crate::frame::{Frame, MISSING, RANGE, RECEIVED, parse};
 use line_text::decimal::{put_list, put_next, put_number};
-use outcome::Listing;
-use proxy_steps::Report;
+use outcome::Refusal;
+use proxy_steps::Forced;
 use writer_proxy::irrelevant::irrelevant_changes_range;
 use writer_proxy::missing::missing_seqnums;
 use writer_proxy::query::all_ackable_before;
@@ -25,25 +25,17 @@ pub const ROOM: usize = 256;
 // The longest answer: `3 0`, a base of nineteen digits, a count of three, 256 numbers of nineteen digits, and a line feed.
 pub const ANSWER: usize = 5148;
 
-// Document 01's refusal number, or 0.
-fn refusal_of(r: Report) -> u64
-    ensures { result ≡ refusal (report_said r) }
-{
-    match r {
-        Report::Done => 0,
-        Report::Forced(_, _) => 0,
-        Report::Refused(k) => k as u64,
-    }
-}
+// The kind of the answer to a line that does not read.
+const MALFORMED: u64 = 0;
 
-// Kind, refusal and base, from the front.
+// Kind, refusal and base, from the front: how many bytes were written.
 fn put_head(out: &mut [u8], kind: u64, refusal: u64, base: u64) -> usize
     requires { 63 ≤ length out.old }
-    ensures { (out.new ≡ sets out.old 0 (started kind (refusal ∷ base ∷ []))) × (result ≡ length (started kind (refusal ∷ base ∷ []))) }
+    ensures { (out.new ≡ over (started kind (refusal ∷ base ∷ [])) out.old) × (result ≡ length (started kind (refusal ∷ base ∷ []))) }
 {
-    let a = put_number(out, 0, kind);
-    let b = put_next(out, a, refusal);
-    put_next(out, b, base)
+    let a = put_number(out, kind);
+    let b = a + put_next(&mut out[a..], refusal);
+    b + put_next(&mut out[b..], base)
 }
 
 // A line of kind, refusal and base.
@@ -56,24 +48,27 @@ fn put_short(out: &mut [u8], kind: u64, refusal: u64, base: u64) -> usize
     end + 1
 }
 
-// The line of a missing list: the first count numbers of the lent one.
-fn put_missing(out: &mut [u8], base: u64, list: &[i64], count: usize) -> usize
-    requires { (answer_most ≤ length out.old) × (base ≤ top) × (count ≤ missing_room) × (count ≤ length list.now) }
-    ensures { LineWritten result out.old out.new 3 (0 ∷ base ∷ count ∷ map nat_of (take count list.now)) }
+// The line of a missing list.
+fn put_missing(out: &mut [u8], base: u64, list: &[i64]) -> usize
+    requires { (answer_most ≤ length out.old) × (base ≤ top) × (length list.now ≤ missing_room) }
+    ensures { LineWritten result out.old out.new 3 (0 ∷ base ∷ length list.now ∷ map nat_of list.now) }
 {
-    let a = put_head(out, 3, 0, base);
-    let b = put_next(out, a, count as u64);
-    let end = put_list(out, b, list, count);
+    let a = put_head(out, MISSING, 0, base);
+    let b = a + put_next(&mut out[a..], list.len() as u64);
+    let end = b + put_list(&mut out[b..], list);
     out[end] = b'\n';
     end + 1
 }
 
 // The line of a call that changed the proxy, or would have.
-fn tell(words: &[u64], kind: u64, r: Report, out: &mut [u8]) -> usize
+fn tell(words: &[u64], kind: u64, r: Result<Option<Forced>, Refusal>, out: &mut [u8]) -> usize
     requires { GoodProxy words.now × (answer_most ≤ length out.old) }
     ensures { LineWritten result out.old out.new kind (refusal (report_said r) ∷ (proxy_of words.now).base ∷ []) }
 {
-    let refusal = refusal_of(r);
+    let refusal = match r {
+        Ok(_) => 0,
+        Err(refusal) => u64::from(refusal.number()),
+    };
     let base = all_ackable_before(words);
     put_short(out, kind, refusal, base)
 }
@@ -87,12 +82,12 @@ fn tell_missing(words: &[u64], start: i64, end: i64, list: &mut [i64], out: &mut
     let listing = missing_seqnums(words, start, end, &mut list[..ROOM]);
     let base = all_ackable_before(words);
     match listing {
-        Listing::Listed(count) => return put_missing(out, base, list, count),
-        Listing::Refused(k) => return put_short(out, 3, k as u64, base),
+        Ok(count) => put_missing(out, base, &list[..count]),
+        Err(refusal) => put_short(out, MISSING, u64::from(refusal.number()), base),
     }
 }
 
-// A frame, done and told.
+// A frame, done and told. The record, the list and the buffer are not one struct: `answer_line` is lent each by itself, and may ask no more.
 fn answer_frame(words: &mut [u64], frame: Frame, list: &mut [i64], out: &mut [u8]) -> usize
     requires { GoodProxy words.old × (missing_room ≤ length list.old) × (answer_most ≤ length out.old) }
     ensures line_answered { LineAnswered result words.new list.new out.old out.new (step_of (done frame) (proxy_of words.old) list.old) }
@@ -101,13 +96,13 @@ fn answer_frame(words: &mut [u64], frame: Frame, list: &mut [i64], out: &mut [u8
     match frame {
         Frame::Received { number, time } => {
             let r = received_changes_add(words, number, time);
-            return tell(words, 1, r, out);
+            tell(words, RECEIVED, r, out)
         }
         Frame::Range { from, until } => {
             let r = irrelevant_changes_range(words, from, until);
-            return tell(words, 2, r, out);
+            tell(words, RANGE, r, out)
         }
-        Frame::Missing { start, end } => return tell_missing(words, start, end, list, out),
+        Frame::Missing { start, end } => tell_missing(words, start, end, list, out),
     }
 }
 
@@ -117,11 +112,13 @@ pub(crate) fn answer(words: &mut [u64], line: &[u8], list: &mut [i64], out: &mut
     ensures line_answered { LineAnswered result words.new list.new out.old out.new (step_of (parsed line.now) (proxy_of words.old) list.old) }
     ensures good_proxy { GoodProxy words.new }
 {
-    let Parsed::Reads(frame) = parse(line) else {
-        let base = all_ackable_before(words);
-        return put_short(out, 0, 1, base);
-    };
-    answer_frame(words, frame, list, out)
+    match parse(line) {
+        Ok(frame) => answer_frame(words, frame, list, out),
+        Err(refusal) => {
+            let base = all_ackable_before(words);
+            put_short(out, MALFORMED, u64::from(refusal.number()), base)
+        }
+    }
 }
 
 // The answer to a line, without its line feed: how many bytes were written.

@@ -1,61 +1,57 @@
 // A line as a frame: a kind byte and two signed 8-byte big-endian numbers.
 ghost use Rattle.std.specs.Prelude.{◌≡◌};
-ghost use Rattle.replay_lines.specs.Frame.{parsed_said, parsed, frame_of};
+ghost use Rattle.outcome.specs.Refusal.{said};
+ghost use Rattle.replay_lines.specs.Frame.{parsed, frame_of};
 
 use line_text::hex::{all_hex, value_at};
-use sequence_number::signed::of_bits;
+use outcome::Refusal;
+
+// The kinds of a line, and of its answer.
+pub const RECEIVED: u64 = 1;
+
+pub const RANGE: u64 = 2;
+
+pub const MISSING: u64 = 3;
 
 // What a line asks of the proxy.
-#[derive(Drop)]
+#[derive(Clone, Copy)]
 pub enum Frame {
     Received { number: i64, time: u64 },
     Range { from: i64, until: i64 },
     Missing { start: i64, end: i64 },
 }
 
-// A line that was read, or one that does not read.
-#[derive(Drop)]
-pub enum Parsed {
-    Malformed,
-    Reads(Frame),
-}
-
 // How many digits a line has.
 const DIGITS: usize = 34;
 
-fn frame_of(kind: u64, a: u64, b: u64) -> Parsed
+#[tactic(auto, unfolding(crate::specs::Frame::frame_of))]
+fn frame_of(kind: u64, a: u64, b: u64) -> Result<Frame, Refusal>
     ensures { result ≡ frame_of kind a b }
 {
-    if kind == 1 {
-        return Parsed::Reads(Frame::Received {
-            number: of_bits(a),
+    match kind {
+        RECEIVED => Ok(Frame::Received {
+            number: a.cast_signed(),
             time: b,
-        });
+        }),
+        RANGE => Ok(Frame::Range {
+            from: a.cast_signed(),
+            until: b.cast_signed(),
+        }),
+        MISSING => Ok(Frame::Missing {
+            start: a.cast_signed(),
+            end: b.cast_signed(),
+        }),
+        _ => Err(Refusal::EndsEarly),
     }
-    if kind == 2 {
-        return Parsed::Reads(Frame::Range {
-            from: of_bits(a),
-            until: of_bits(b),
-        });
-    }
-    if kind == 3 {
-        return Parsed::Reads(Frame::Missing {
-            start: of_bits(a),
-            end: of_bits(b),
-        });
-    }
-    Parsed::Malformed
 }
 
 // The bytes of a line, without its line feed.
-pub fn parse(line: &[u8]) -> Parsed
-    ensures { parsed_said result ≡ parsed line.now }
+#[tactic(auto, unfolding(crate::specs::Frame::parsed))]
+pub fn parse(line: &[u8]) -> Result<Frame, Refusal>
+    ensures { said result ≡ parsed line.now }
 {
-    if line.len() != DIGITS {
-        return Parsed::Malformed;
-    }
-    if !all_hex(line) {
-        return Parsed::Malformed;
+    if line.len() != DIGITS || !all_hex(line) {
+        return Err(Refusal::EndsEarly);
     }
     let kind = value_at(line, 0, 2);
     let a = value_at(line, 2, 16);

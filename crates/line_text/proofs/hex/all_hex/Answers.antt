@@ -1,16 +1,11 @@
-use native.Mathlib.Omega.{arith}
-use mathlib.Core.Path.{refl, sym, ◌∙◌}
-use Rattle.line_text.proofs.HexLaws.{hex_stops, hex_goes_on, hex_ends}
+-- `line_text::hex::all_hex` meets its contract: the library's digits are those of `digit_of`. Assumes nothing.
+use Rattle.std.proofs.Common.{rules, tests, ◌∙◌}
+use Rattle.std.proofs.lemmas.Iterator.{YieldsList-from_slice}
+use Rattle.std.proofs.lemmas.Iterator.Search.{all_from_yields_List}
+use Rattle.std.specs.Char.{is_ascii_hexdigit}
+use Rattle.line_text.proofs.HexLaws.{hex_tests}
 use Rattle.line_text.proofs.hex.all_hex.Goals as goal
 
-pub loop-i-init : goal.loop-i-init
-loop-i-init c = (omega arith, refl)
-
-pub returns-then-digit-eq16 : goal.returns-then-digit-eq16
-returns-then-digit-eq16 c = hex_stops _ _ c.loop-i-test.true c.loop-i.invariant.1 (sym c.digit.ensures ∙ c.if-digit-eq16.true)
-
-pub loop-i-preserved : goal.loop-i-preserved
-loop-i-preserved c = (omega arith, hex_goes_on _ _ c.loop-i-test.true c.loop-i.invariant.1 (λ e. c.if-digit-eq16.false (c.digit.ensures ∙ e)))
-
 pub returns : goal.returns
-returns c = hex_ends c.args.s.now c.loop-i.i (omega arith) c.loop-i.invariant.1
+returns c =
+    all_from_yields_List is_ascii_hexdigit _ _ c.all.result c.all.ensures.ran (YieldsList-from_slice c.args.s.now cc) (λ x b q k. search (rules, tests)) ∙ hex_tests c.args.s.now

@@ -1,7 +1,7 @@
 -- `replay_lines::answer::answer_frame` meets its contract: each frame is a case of `step_of`. Assumes nothing.
+use Rattle.std.proofs.Common.{arith, w64}
 use mir.Facts.{to_z-of_z}
 use Rattle.replay_lines.proofs.AnswerLaws.{did_received, did_range, did_missing}
-use Rattle.std.proofs.Common.{arith, w64}
 use Rattle.replay_lines.proofs.answer.answer_frame.Goals as goal
 
 pub returns-in-Received-clause-line_answered : goal.returns-in-Received-clause-line_answered

@@ -1,31 +1,32 @@
--- `replay_lines::answer::tell_missing` meets its contract: the numbers that stand in the lent list are the missing ones, and a refusal is told alone. Assumes nothing.
-use native.Mathlib.Omega.{arith}
-use mathlib.Core.Path.{sym}
-use lib.Seq.{length-take-le}
+-- `replay_lines::answer::tell_missing` meets its contract: the numbers that stand in the lent list are the missing ones. Assumes nothing.
+use Rattle.std.proofs.Common.{◌≡◌, ◌≤◌, ◌++◌, arith, sym, length, take, drop, length-take-le}
 use mir.Facts.{to_z-of_z}
-use Rattle.replay_lines.proofs.AnswerLaws.{missing_fits, missing_told, missing_refused}
+use Rattle.outcome.specs.Outcome.{done}
+use Rattle.proxy_record.specs.Words.{proxy_of}
+use Rattle.writer_proxy.specs.Missing.{missing_listed}
+use Rattle.replay_lines.proofs.AnswerLaws.{missing_fits, missing_told}
 use Rattle.replay_lines.proofs.answer.tell_missing.Goals as goal
+use Rattle.replay_lines.proofs.answer.tell_missing.Goals.{In-Ok}
 
-pub slice_bounds-missing_seqnums-end-2 : goal.slice_bounds-missing_seqnums-end-2
-slice_bounds-missing_seqnums-end-2 c = sym (length-take-le 256 c.args.list.now c.requires.1)
+-- the numbers that were listed, and how many they are
+listed : (c : In-Ok) → (done c.in-Ok.count ≡ (missing_listed c.args.start c.args.end (proxy_of c.args.words.now) (take 256 c.args.list.now)).answer) × (c.missing_seqnums-listing.new.out ≡ (missing_listed c.args.start c.args.end (proxy_of c.args.words.now) (take 256 c.args.list.now)).list)
+listed c = let fs = to_z-of_z c.ranges.start in let fe = to_z-of_z c.ranges.end in let h = c.in-Ok.ensures in rw (fs, fe) at h
+
+fits : (c : In-Ok) → (c.in-Ok.count ≤ 256) × (c.in-Ok.count ≤ length (c.missing_seqnums-listing.new.out ++ drop 256 c.args.list.now))
+fits c = missing_fits c.args.start c.args.end _ c.args.list.now _ (listed c).1 _ (listed c).0
+
+pub slice_bounds-put_missing-end : goal.slice_bounds-put_missing-end
+slice_bounds-put_missing-end c = (fits (goal.at.slice_bounds-put_missing-end c).In-Ok).1
+
+pub slice_bounds-put_missing-end-in-Ok : goal.slice_bounds-put_missing-end-in-Ok
+slice_bounds-put_missing-end-in-Ok c = sym (length-take-le _ _ (fits (goal.at.slice_bounds-put_missing-end-in-Ok c).In-Ok).1)
 
 pub put_missing-requires : goal.put_missing-requires
 put_missing-requires c =
-    let fs = to_z-of_z c.ranges.start in
-    let fe = to_z-of_z c.ranges.end in
-    let f = missing_fits c.args.start c.args.end _ c.args.list.now _ _ _ (rw (fs, fe) at c.missing_seqnums-listing.ensures.0) (rw (fs, fe) at c.missing_seqnums-listing.ensures.1) c.in-Listed.is in
-    (c.requires.2, omega (arith, c.all_ackable_before-base.ensures, c.requires.0.ok.high), f.0, f.1)
+    let h = fits (goal.at.put_missing-requires c).In-Ok in
+    (c.requires.2, omega (arith, c.all_ackable_before-base.ensures, c.requires.0.ok.high), omega (arith, length-take-le _ _ h.1))
 
-pub returns-in-Listed : goal.returns-in-Listed
-returns-in-Listed c =
-    let fs = to_z-of_z c.ranges.start in
-    let fe = to_z-of_z c.ranges.end in
-    let m = missing_told c.args.start c.args.end _ c.args.list.now _ _ (rw (fs, fe) at c.missing_seqnums-listing.ensures.0) (rw (fs, fe) at c.missing_seqnums-listing.ensures.1) _ _ _ _ c.all_ackable_before-base.ensures _ c.in-Listed.is c.put_missing.ensures in
-    record { line_written = m.0; list_after = m.1 }
-
-pub returns-in-Refused : goal.returns-in-Refused
-returns-in-Refused c =
-    let fs = to_z-of_z c.ranges.start in
-    let fe = to_z-of_z c.ranges.end in
-    let m = missing_refused c.args.start c.args.end _ c.args.list.now _ _ (rw (fs, fe) at c.missing_seqnums-listing.ensures.0) (rw (fs, fe) at c.missing_seqnums-listing.ensures.1) _ _ _ _ c.all_ackable_before-base.ensures _ c.in-Refused.is c.put_short.ensures in
-    record { line_written = m.0; list_after = m.1 }
+pub returns-in-Ok-clause-line_written : goal.returns-in-Ok-clause-line_written
+returns-in-Ok-clause-line_written c =
+    let h = listed (goal.at.returns-in-Ok-clause-line_written c).In-Ok in
+    (missing_told c.args.start c.args.end _ c.args.list.now _ h.1 _ _ _ _ _ c.all_ackable_before-base.ensures h.0 c.put_missing.ensures).0

@@ -1,6 +1,0 @@
--- `replay::replay_all` meets its contract: the end of the input is fed after all of it. Assumes nothing.
-use Rattle.replay.proofs.RunLaws.{ran_to_end}
-use Rattle.replay.proofs.replay_all.Goals as goal
-
-pub returns : goal.returns
-returns g c = ran_to_end _ _ _ _ _ _ _ _ c.replay_input-n.ensures.fed_some c.close-wrote.ensures.fed_with
