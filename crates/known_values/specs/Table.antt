@@ -2,7 +2,8 @@
 use Rattle.std.specs.Prelude.{ℕ, zero, suc, ◌*◌, ◌≡◌, Bool, List, [], ◌∷◌, map, length, ℤ, pos}
 use Rattle.outcome.specs.Outcome.{Outcome, refused, done}
 use Rattle.sequence_number.specs.Kind.{sequence_number, sequence_bytes}
-use Rattle.number_set.specs.NumberSet.{NumberSet, empty_at}
+use Rattle.number_set.specs.declared.set.NumberSet.{NumberSet}
+use Rattle.number_set.specs.NumberSet.{empty_at}
 use Rattle.number_set.specs.Make.{make_set}
 use Rattle.sequence_number.specs.declared.ByteOrder.TheVariants.{Little}
 use Rattle.assembly_record.specs.Fragments.{fragments}

@@ -1,269 +1,178 @@
 // The calls on a fragment assembler. One record and one area serve from line to line.
 ghost use Rattle.assembly_record.specs.Rules.{GoodAssembler};
+ghost use Rattle.stored_answers.specs.GoodProps.{GoodAssembler-prop};
 
-use crate::args::{PAYLOAD, left, low_half, low_word, signed, to_bytes, yes};
-use crate::codes::{
-    CLEAN, FRAGMENT, IS_IN_ASSEMBLY, MISSING_FRAGMENTS, SET_UP_ASSEMBLER, SET_UP_ASSEMBLER_ON, VIEW,
-};
+use crate::args::Args;
+use crate::codes::AssemblerCode;
 use crate::digest::{bytes_digest, words_digest};
-use crate::line::Call;
-use crate::out::{
-    first, flag, line, next, no_call, pair, refusal, show_bytes, show_signed, show_words, two,
-};
-use fragment_assembler::clean::{Cleaned, garbage_collect_before};
-use fragment_assembler::fragment::{Answer, new_datafrag};
+use crate::out::{Found, end, first, line, next, no_call, rest, told};
+use fragment_assembler::clean::garbage_collect_before;
+use fragment_assembler::fragment::{Answer, DataFrag, new_datafrag};
 use fragment_assembler::missing::missing_frags_for;
 use fragment_assembler::query::{in_assembly, is_partially_received};
 use fragment_assembler::set_up::set_up;
 use fragment_assembler::view::view;
-use outcome::{Listing, SetUp};
+use outcome::Refusal;
 
-// Set-up's refusal, or 0.
-fn refusal_of(s: SetUp) -> u64 {
-    match s {
-        SetUp::Refused(k) => return k as u64,
-        SetUp::Ready => return 0,
-    }
-}
+// Where a fragment's bytes start among the words.
+const PAYLOAD: usize = 7;
 
-// What became of set-up, and the digest of its words: f mode p, mode 1 reliable and 0 best effort. Returned: the refusal.
-fn start(rt: &impl Print, t: &mut [u64], f: u64, mode: u64, p: u64) -> u64
+// Set-up, answered with the digest of its words: f mode p, mode 1 reliable and 0 best effort. Returned: whether it was done.
+fn start(rt: &impl Print, t: &mut [u64], f: u16, mode: bool, p: u32) -> bool
     ensures { GoodAssembler t.old → GoodAssembler t.new }
 {
-    let refused = refusal_of(set_up(t, low_half(f), yes(mode), low_word(p)));
-    pair(rt, refused, words_digest(t));
-    refused
+    let done = set_up(t, f, mode, p);
+    told(rt, &done);
+    next(rt, words_digest(t));
+    end(rt);
+    done.is_ok()
 }
 
-// What an area holds before the first fragment; nothing changes after a refusal.
-fn fill_area(refused: u64, area: &mut [u8]) {
-    if refused != 0 {
-        return;
-    }
-    let mut i = 0;
+// What an area holds before the first fragment.
+fn fill_area(area: &mut [u8]) {
     let mut byte: u8 = 3;
-    while i < area.len() {
-        area[i] = byte;
-        byte = std::num::wrapping_add_u8(byte, 7);
-        i += 1;
+    for place in area.iter_mut() {
+        *place = byte;
+        byte = byte.wrapping_add(7);
     }
-}
-
-// f mode p
-fn start_here(rt: &impl Print, t: &mut [u64], area: &mut [u8], c: Call)
-    requires { GoodAssembler t.old }
-    ensures { GoodAssembler t.new }
-{
-    let refused = start(rt, t, c.first, c.second, c.third);
-    fill_area(refused, area);
 }
 
 // On other words: room f mode p.
-fn start_on(rt: &impl Print, c: Call, lent: &mut [u64]) {
-    let n = c.first as usize;
-    if lent.len() < n {
-        return no_call(rt);
-    }
-    start(rt, &mut lent[..n], c.second, c.third, c.fourth);
-}
-
-fn start_fresh(rt: &impl Print, c: Call) {
+fn start_fresh(rt: &impl Print, c: Args) {
     let mut lent = [90u64; 1000];
-    start_on(rt, c, &mut lent);
+    match lent.get_mut(..c.at(0)) {
+        Some(lent) => {
+            start(rt, lent, c.at(1), c.at(2), c.at(3));
+        }
+        None => no_call(rt),
+    }
 }
 
-// A refusal; or 0 and 0; or 0, 1 and the returned number, its place and length; or 0, 2 and the dropped number.
-fn told_answer(rt: &impl Print, r: &Answer) {
-    match r {
-        Answer::Refused(k) => return refusal(rt, *k),
-        Answer::Kept => return two(rt, 0, 0),
-        Answer::Returned {
-            number,
-            place,
-            length,
-        } => {
-            two(rt, 0, 1);
-            next(rt, *number);
-            next(rt, *place as u64);
-            next(rt, *length as u64);
-        }
-        Answer::Dropped(number) => {
-            two(rt, 0, 2);
-            next(rt, *number);
+// 0; or 1 and the returned number, its place and length; or 2 and the dropped number.
+impl Found for Answer {
+    fn show(&self, rt: &impl Print) {
+        match self {
+            Answer::Kept => next(rt, 0u8),
+            Answer::Returned {
+                number,
+                place,
+                length,
+            } => {
+                next(rt, 1u8);
+                next(rt, *number);
+                next(rt, *place);
+                next(rt, *length);
+            }
+            Answer::Dropped(number) => {
+                next(rt, 2u8);
+                next(rt, *number);
+            }
         }
     }
 }
 
-// The rest of a fragment's line: what was returned, as the view shows it.
-fn show_returned(rt: &impl Print, t: &[u64], area: &[u8], r: Answer)
+// What became of a fragment, how many are in assembly, the digests of record and area, and what was returned, as the view shows it.
+fn told_fragment(rt: &impl Print, t: &[u64], area: &[u8], reply: Result<Answer, Refusal>)
     requires { GoodAssembler t.now }
 {
-    let Answer::Returned {
-        number: _,
-        place,
-        length,
-    } = r
-    else {
-        return show_bytes(rt, b"");
-    };
-    show_bytes(rt, view(t, area, place, length as usize));
-}
-
-// What became of a fragment, how many are in assembly, the digests of record and area, and what was returned.
-fn told(rt: &impl Print, t: &[u64], area: &[u8], r: Answer)
-    requires { GoodAssembler t.now }
-{
-    told_answer(rt, &r);
-    next(rt, in_assembly(t) as u64);
+    told(rt, &reply);
+    next(rt, in_assembly(t));
     next(rt, words_digest(t));
     next(rt, bytes_digest(area));
-    show_returned(rt, t, area, r);
+    let shown = match reply {
+        Ok(Answer::Returned { place, length, .. }) => view(t, area, place, length as usize),
+        _ => &[],
+    };
+    rest(rt, shown);
 }
 
-fn take_fragment(rt: &impl Print, t: &mut [u64], area: &mut [u8], c: Call, payload: &[u8])
-    requires { GoodAssembler t.old }
-    ensures { GoodAssembler t.new }
-{
-    let n = c.first as usize;
-    if area.len() < n {
-        return no_call(rt);
+// An assembler by the rules, and its area.
+#[derive(Drop)]
+pub(crate) struct Assembler<'a> {
+    pub(crate) t: &'a mut [u64],
+    pub(crate) area: &'a mut [u8],
+    ghost good: { GoodAssembler t.now } by { GoodAssembler-prop t.now },
+}
+
+impl Assembler<'_> {
+    // f mode p; nothing changes after a refusal.
+    fn set_up(&mut self, rt: &impl Print, c: Args) {
+        if start(rt, self.t, c.at(0), c.at(1), c.at(2)) {
+            fill_area(self.area);
+        }
     }
-    let r = new_datafrag(
-        t,
-        &mut area[..n],
-        c.second,
-        signed(c.third),
-        low_half(c.fourth),
-        low_word(c.fifth),
-        low_word(c.sixth),
-        low_half(c.seventh),
-        payload,
-    );
-    told(rt, t, &area[..n], r);
-}
 
-// A fragment whose payload is read to the lent bytes.
-fn with_payload(
-    rt: &impl Print,
-    t: &mut [u64],
-    area: &mut [u8],
-    c: Call,
-    line: &[u64],
-    bytes: &mut [u8],
-)
-    requires { GoodAssembler t.old }
-    ensures { GoodAssembler t.new }
-{
-    let n = left(line, PAYLOAD);
-    if bytes.len() < n {
-        return no_call(rt);
+    // Fragment: area time number size D start count byte ..
+    fn fragment(&mut self, rt: &impl Print, c: Args) {
+        let mut bytes = [0u8; 1100];
+        let Some(payload) = c.list(PAYLOAD, &mut bytes) else {
+            return no_call(rt);
+        };
+        let t = &mut *self.t;
+        let area = &mut *self.area;
+        let Some(area) = area.get_mut(..c.at(0)) else {
+            return no_call(rt);
+        };
+        let frag = DataFrag {
+            fragment_size: c.at(3),
+            data_size: c.at(4),
+            start: c.at(5),
+            count: c.at(6),
+            payload,
+        };
+        let reply = new_datafrag(t, area, c.at(1), c.at(2), frag);
+        told_fragment(rt, t, area, reply);
     }
-    to_bytes(line, PAYLOAD, &mut bytes[..n]);
-    take_fragment(rt, t, area, c, &bytes[..n]);
-}
 
-// Fragment: area time number size D start count byte ..
-fn fragment(rt: &impl Print, t: &mut [u64], area: &mut [u8], c: Call, line: &[u64])
-    requires { GoodAssembler t.old }
-    ensures { GoodAssembler t.new }
-{
-    let mut bytes = [0u8; 1100];
-    with_payload(rt, t, area, c, line, &mut bytes);
-}
-
-// View: area place length
-fn show(rt: &impl Print, t: &[u64], area: &[u8], c: Call)
-    requires { GoodAssembler t.now }
-{
-    let n = c.first as usize;
-    if area.len() < n {
-        return no_call(rt);
+    // View: area place length
+    fn view(&self, rt: &impl Print, c: Args) {
+        let Some(area) = self.area.get(..c.at(0)) else {
+            return no_call(rt);
+        };
+        let shown = view(self.t, area, c.at(1), c.at(2));
+        first(rt, shown.len());
+        rest(rt, shown);
     }
-    let shown = view(t, &area[..n], c.second as usize, c.third as usize);
-    first(rt, shown.len() as u64);
-    show_bytes(rt, shown);
-}
 
-// A refusal, or 0 and how many were dropped.
-fn told_cleaned(rt: &impl Print, c: Cleaned) {
-    match c {
-        Cleaned::Refused(k) => return refusal(rt, k),
-        Cleaned::Dropped(n) => return two(rt, 0, n as u64),
+    // Cleaning: cutoff room
+    fn clean(&mut self, rt: &impl Print, c: Args) {
+        let mut lent = [90i64; 300];
+        let Some(lent) = lent.get_mut(..c.at(1)) else {
+            return no_call(rt);
+        };
+        let t = &mut *self.t;
+        told(rt, &garbage_collect_before(t, c.at(0), lent));
+        next(rt, words_digest(t));
+        rest(rt, lent);
     }
-}
 
-// Cleaning: cutoff room
-fn clean(rt: &impl Print, t: &mut [u64], c: Call, lent: &mut [i64])
-    requires { GoodAssembler t.old }
-    ensures { GoodAssembler t.new }
-{
-    let n = c.second as usize;
-    if lent.len() < n {
-        return no_call(rt);
+    // Missing fragments: number room
+    fn missing(&self, rt: &impl Print, c: Args) {
+        let mut lent = [90u32; 300];
+        let Some(lent) = lent.get_mut(..c.at(1)) else {
+            return no_call(rt);
+        };
+        told(rt, &missing_frags_for(self.t, c.at(0), lent));
+        rest(rt, lent);
     }
-    told_cleaned(rt, garbage_collect_before(t, c.first, &mut lent[..n]));
-    next(rt, words_digest(t));
-    show_signed(rt, &lent[..n]);
-}
 
-fn clean_lent(rt: &impl Print, t: &mut [u64], c: Call)
-    requires { GoodAssembler t.old }
-    ensures { GoodAssembler t.new }
-{
-    let mut lent = [90i64; 300];
-    clean(rt, t, c, &mut lent);
-}
-
-// A refusal, or 0 and how many were listed.
-fn told_listing(rt: &impl Print, l: Listing) {
-    match l {
-        Listing::Refused(k) => return refusal(rt, k),
-        Listing::Listed(n) => return two(rt, 0, n as u64),
+    // The calls that leave the record as it is. In assembly: number, or nothing for how many.
+    fn ask(&self, rt: &impl Print, code: AssemblerCode, c: Args) {
+        match code {
+            AssemblerCode::View => self.view(rt, c),
+            AssemblerCode::Missing => self.missing(rt, c),
+            AssemblerCode::IsInAssembly => line(rt, is_partially_received(self.t, c.at(0))),
+            _ => line(rt, in_assembly(self.t)),
+        }
     }
-}
 
-// Missing fragments: number room
-fn list_missing(rt: &impl Print, t: &[u64], c: Call, lent: &mut [u32])
-    requires { GoodAssembler t.now }
-{
-    let n = c.second as usize;
-    if lent.len() < n {
-        return no_call(rt);
-    }
-    told_listing(rt, missing_frags_for(t, signed(c.first), &mut lent[..n]));
-    show_words(rt, &lent[..n]);
-}
-
-fn list_lent(rt: &impl Print, t: &[u64], c: Call)
-    requires { GoodAssembler t.now }
-{
-    let mut lent = [90u32; 300];
-    list_missing(rt, t, c, &mut lent);
-}
-
-// The calls that leave the record as it is. In assembly: number, or nothing for how many.
-fn ask(rt: &impl Print, t: &[u64], area: &[u8], c: Call)
-    requires { GoodAssembler t.now }
-{
-    let code = c.code;
-    match code {
-        VIEW => return show(rt, t, area, c),
-        MISSING_FRAGMENTS => return list_lent(rt, t, c),
-        IS_IN_ASSEMBLY => return flag(rt, is_partially_received(t, signed(c.first))),
-        _ => return line(rt, in_assembly(t) as u64),
-    }
-}
-
-pub(crate) fn call(rt: &impl Print, t: &mut [u64], area: &mut [u8], c: Call, line: &[u64])
-    requires { GoodAssembler t.old }
-    ensures { GoodAssembler t.new }
-{
-    let code = c.code;
-    match code {
-        SET_UP_ASSEMBLER => return start_here(rt, t, area, c),
-        SET_UP_ASSEMBLER_ON => return start_fresh(rt, c),
-        FRAGMENT => return fragment(rt, t, area, c, line),
-        CLEAN => return clean_lent(rt, t, c),
-        _ => return ask(rt, t, area, c),
+    pub(crate) fn call(&mut self, rt: &impl Print, code: AssemblerCode, c: Args) {
+        match code {
+            AssemblerCode::SetUp => self.set_up(rt, c),
+            AssemblerCode::SetUpOn => start_fresh(rt, c),
+            AssemblerCode::Fragment => self.fragment(rt, c),
+            AssemblerCode::Clean => self.clean(rt, c),
+            _ => self.ask(rt, code, c),
+        }
     }
 }

@@ -1,109 +1,123 @@
 // The codes of the calls, and how many words each takes.
-use crate::line::digit;
 
-// Numbers and sets: 1x of sequence numbers, 2x of fragment numbers.
-pub(crate) const WRITE_SEQUENCE_NUMBER: u64 = 0x10;
-
-pub(crate) const READ_SEQUENCE_NUMBER: u64 = 0x11;
-
-pub(crate) const READ_SEQUENCE_SET: u64 = 0x12;
-
-pub(crate) const WRITE_SEQUENCE_SET: u64 = 0x13;
-
-pub(crate) const WALK_SEQUENCE_SET: u64 = 0x14;
-
-pub(crate) const MEASURE_SEQUENCE_SET: u64 = 0x15;
-
-pub(crate) const MAKE_SEQUENCE_SET: u64 = 0x16;
-
-pub(crate) const WRITE_FRAGMENT_NUMBER: u64 = 0x20;
-
-pub(crate) const READ_FRAGMENT_NUMBER: u64 = 0x21;
-
-pub(crate) const READ_FRAGMENT_SET: u64 = 0x22;
-
-pub(crate) const WRITE_FRAGMENT_SET: u64 = 0x23;
-
-pub(crate) const WALK_FRAGMENT_SET: u64 = 0x24;
-
-pub(crate) const MEASURE_FRAGMENT_SET: u64 = 0x25;
-
-pub(crate) const MAKE_FRAGMENT_SET: u64 = 0x26;
-
-// A fragment assembler: 3x.
-pub(crate) const SET_UP_ASSEMBLER: u64 = 0x30;
-
-pub(crate) const SET_UP_ASSEMBLER_ON: u64 = 0x31;
-
-pub(crate) const FRAGMENT: u64 = 0x32;
-
-pub(crate) const VIEW: u64 = 0x33;
-
-pub(crate) const CLEAN: u64 = 0x34;
-
-pub(crate) const MISSING_FRAGMENTS: u64 = 0x35;
-
-pub(crate) const IS_IN_ASSEMBLY: u64 = 0x36;
-
-pub(crate) const IN_ASSEMBLY: u64 = 0x37;
-
-// A writer proxy: 4x.
-pub(crate) const SET_UP_PROXY: u64 = 0x40;
-
-pub(crate) const SET_UP_PROXY_ON: u64 = 0x41;
-
-pub(crate) const RECEIVED: u64 = 0x42;
-
-pub(crate) const IRRELEVANT: u64 = 0x43;
-
-pub(crate) const IRRELEVANT_RANGE: u64 = 0x44;
-
-pub(crate) const IRRELEVANT_UP_TO: u64 = 0x45;
-
-pub(crate) const IS_IGNORED: u64 = 0x46;
-
-pub(crate) const STATUS: u64 = 0x47;
-
-pub(crate) const LAST: u64 = 0x48;
-
-pub(crate) const BASE: u64 = 0x49;
-
-pub(crate) const MISSING_NUMBERS: u64 = 0x4a;
-
-// The acknack count.
-pub(crate) const ACKNACK_COUNT: u64 = 0x50;
-
-// The engines, by a code's first digit.
-pub(crate) const OF_ASSEMBLER: u64 = 3;
-
-pub(crate) const OF_PROXY: u64 = 4;
-
-pub(crate) const OF_COUNTER: u64 = 5;
-
-// In the table: a list follows the call's one word, or its seven. Any other byte that is no digit: no call.
-const ONE_AND_LIST: u8 = b'+';
-
-const SEVEN_AND_LIST: u8 = b'*';
-
-// Whether a line of n words, the code among them, is what a byte of the table says.
-fn as_said(t: u8, n: usize) -> bool {
-    if t == ONE_AND_LIST {
-        return 2 <= n;
-    }
-    if t == SEVEN_AND_LIST {
-        return 8 <= n;
-    }
-    digit(t) + 1 == n as u64
+// A code by its engine, which its first digit names, and by its last digit. The acknack count: 50.
+#[derive(Clone, Copy)]
+pub(crate) enum Code {
+    Sequence(SetCode),
+    Fragment(SetCode),
+    Assembler(AssemblerCode),
+    Proxy(ProxyCode),
+    Counter,
 }
 
-// Whether a call with this code has a line of so many words. The table has a byte for each code from 10 to 50: the words after the code, in hexadecimal.
-pub(crate) fn takes(code: u64, n: usize) -> bool {
-    let table = b"3++cca+---------3++cca+---------34*32210--------01212111003-----1";
-    if code < WRITE_SEQUENCE_NUMBER {
-        return false;
+// Numbers and sets: 1x of sequence numbers, 2x of fragment numbers.
+#[derive(Clone, Copy)]
+pub(crate) enum SetCode {
+    WriteNumber,
+    ReadNumber,
+    ReadSet,
+    WriteSet,
+    WalkSet,
+    MeasureSet,
+    MakeSet,
+}
+
+// A fragment assembler: 3x.
+#[derive(Clone, Copy)]
+pub(crate) enum AssemblerCode {
+    SetUp,
+    SetUpOn,
+    Fragment,
+    View,
+    Clean,
+    Missing,
+    IsInAssembly,
+    InAssembly,
+}
+
+// A writer proxy: 4x.
+#[derive(Clone, Copy)]
+pub(crate) enum ProxyCode {
+    SetUp,
+    SetUpOn,
+    Received,
+    Irrelevant,
+    IrrelevantRange,
+    IrrelevantUpTo,
+    IsIgnored,
+    Status,
+    Last,
+    Base,
+    Missing,
+}
+
+// How many words follow a code: so many, or so many and a list.
+#[derive(Clone, Copy)]
+enum Takes {
+    Words(usize),
+    List(usize),
+}
+
+impl Takes {
+    fn fits(self, n: usize) -> bool {
+        match self {
+            Takes::Words(words) => n == words,
+            Takes::List(words) => words <= n,
+        }
     }
-    if ACKNACK_COUNT < code {
-        return false;
+}
+
+// By the last digit of a code.
+const SET_CODES: [(SetCode, Takes); 7] = [
+    (SetCode::WriteNumber, Takes::Words(3)),
+    (SetCode::ReadNumber, Takes::List(1)),
+    (SetCode::ReadSet, Takes::List(1)),
+    (SetCode::WriteSet, Takes::Words(12)),
+    (SetCode::WalkSet, Takes::Words(12)),
+    (SetCode::MeasureSet, Takes::Words(10)),
+    (SetCode::MakeSet, Takes::List(1)),
+];
+
+const ASSEMBLER_CODES: [(AssemblerCode, Takes); 8] = [
+    (AssemblerCode::SetUp, Takes::Words(3)),
+    (AssemblerCode::SetUpOn, Takes::Words(4)),
+    (AssemblerCode::Fragment, Takes::List(7)),
+    (AssemblerCode::View, Takes::Words(3)),
+    (AssemblerCode::Clean, Takes::Words(2)),
+    (AssemblerCode::Missing, Takes::Words(2)),
+    (AssemblerCode::IsInAssembly, Takes::Words(1)),
+    (AssemblerCode::InAssembly, Takes::Words(0)),
+];
+
+const PROXY_CODES: [(ProxyCode, Takes); 11] = [
+    (ProxyCode::SetUp, Takes::Words(0)),
+    (ProxyCode::SetUpOn, Takes::Words(1)),
+    (ProxyCode::Received, Takes::Words(2)),
+    (ProxyCode::Irrelevant, Takes::Words(1)),
+    (ProxyCode::IrrelevantRange, Takes::Words(2)),
+    (ProxyCode::IrrelevantUpTo, Takes::Words(1)),
+    (ProxyCode::IsIgnored, Takes::Words(1)),
+    (ProxyCode::Status, Takes::Words(1)),
+    (ProxyCode::Last, Takes::Words(0)),
+    (ProxyCode::Base, Takes::Words(0)),
+    (ProxyCode::Missing, Takes::Words(3)),
+];
+
+// The row of a table, where so many words are what it takes.
+fn row<C: Copy>(table: &[(C, Takes)], i: u64, n: usize) -> Option<C> {
+    let (code, takes) = table.get(i as usize)?;
+    takes.fits(n).then_some(*code)
+}
+
+// The call with this code, where it has a line of so many words after the code.
+pub(crate) fn code_of(code: u64, n: usize) -> Option<Code> {
+    let last = code % 16;
+    match code / 16 {
+        1 => row(&SET_CODES, last, n).map(Code::Sequence),
+        2 => row(&SET_CODES, last, n).map(Code::Fragment),
+        3 => row(&ASSEMBLER_CODES, last, n).map(Code::Assembler),
+        4 => row(&PROXY_CODES, last, n).map(Code::Proxy),
+        5 if last == 0 && n == 1 => Some(Code::Counter),
+        _ => None,
     }
-    as_said(table[(code - WRITE_SEQUENCE_NUMBER) as usize], n)
 }

@@ -9,31 +9,16 @@ fn mix(digest: u64, value: u64) -> u64 {
     ((digest % MODULUS) * FACTOR + value % MODULUS) % MODULUS
 }
 
-fn mix_byte(digest: u64, byte: u8) -> u64 {
-    mix(digest, byte as u64)
-}
-
-// A word as its upper and its lower half.
-fn mix_word(digest: u64, word: u64) -> u64 {
-    mix(mix(digest, word / 4294967296), word % 4294967296)
-}
-
+// A byte is one value.
 pub(crate) fn bytes_digest(s: &[u8]) -> u64 {
-    let mut digest: u64 = 1;
-    let mut i = 0;
-    while i < s.len() {
-        digest = mix_byte(digest, s[i]);
-        i += 1;
-    }
-    digest
+    s.iter()
+        .fold(1, |digest, byte| mix(digest, u64::from(*byte)))
 }
 
+// A word is two: its upper and its lower half.
 pub(crate) fn words_digest(s: &[u64]) -> u64 {
-    let mut digest: u64 = 1;
-    let mut i = 0;
-    while i < s.len() {
-        digest = mix_word(digest, s[i]);
-        i += 1;
-    }
-    digest
+    s.iter().fold(
+        1,
+        |digest, word| mix(mix(digest, *word >> 32), *word & 0xffff_ffff),
+    )
 }

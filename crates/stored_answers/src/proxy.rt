@@ -1,162 +1,124 @@
 // The calls on a writer proxy. One record serves from line to line.
 ghost use Rattle.proxy_record.specs.Rules.{GoodProxy};
+ghost use Rattle.stored_answers.specs.GoodProps.{GoodProxy-prop};
 
-use crate::args::signed;
-use crate::codes::{
-    IRRELEVANT, IRRELEVANT_RANGE, IRRELEVANT_UP_TO, IS_IGNORED, LAST, MISSING_NUMBERS, RECEIVED,
-    SET_UP_PROXY, SET_UP_PROXY_ON, STATUS,
-};
+use crate::args::Args;
+use crate::codes::ProxyCode;
 use crate::digest::words_digest;
-use crate::line::Call;
-use crate::out::{end, flag, line, next, no_call, pair, refusal, show_signed, two};
-use outcome::{Listing, SetUp};
-use proxy_steps::Report;
+use crate::out::{Found, end, line, next, no_call, pair, rest, told};
+use proxy_record::Mark;
+use proxy_steps::Forced;
 use writer_proxy::irrelevant::{
     irrelevant_changes_range, irrelevant_changes_up_to, set_irrelevant_change,
 };
 use writer_proxy::missing::missing_seqnums;
-use writer_proxy::query::{
-    LastReceived, Status, all_ackable_before, change_status, last_received, should_ignore_change,
-};
+use writer_proxy::query::{all_ackable_before, change_status, last_received, should_ignore_change};
 use writer_proxy::received::received_changes_add;
 use writer_proxy::set_up::set_up;
-
-// A set-up's refusal, or 0.
-fn told_set_up(rt: &impl Print, r: SetUp) {
-    match r {
-        SetUp::Refused(k) => return refusal(rt, k),
-        SetUp::Ready => return refusal(rt, 0),
-    }
-}
 
 // What became of set-up, and the digest of its words.
 fn start(rt: &impl Print, t: &mut [u64])
     ensures { GoodProxy t.old → GoodProxy t.new }
 {
-    told_set_up(rt, set_up(t));
+    told(rt, &set_up(t));
     next(rt, words_digest(t));
     end(rt);
 }
 
 // On other words: room.
-fn start_on(rt: &impl Print, room: u64, lent: &mut [u64]) {
-    let n = room as usize;
-    if lent.len() < n {
-        return no_call(rt);
-    }
-    start(rt, &mut lent[..n]);
-}
-
-fn start_fresh(rt: &impl Print, room: u64) {
+fn start_fresh(rt: &impl Print, c: Args) {
     let mut lent = [90u64; 1000];
-    start_on(rt, room, &mut lent);
+    match lent.get_mut(..c.at(0)) {
+        Some(lent) => start(rt, lent),
+        None => no_call(rt),
+    }
 }
 
-// A refusal; or 0 and 0; or 0, 1 and the forced step.
-fn told_report(rt: &impl Print, r: Report) {
-    match r {
-        Report::Done => return two(rt, 0, 0),
-        Report::Forced(old, new) => {
-            two(rt, 0, 1);
-            next(rt, old);
-            next(rt, new);
+// 0; or 1 and the forced step.
+impl Found for Option<Forced> {
+    fn show(&self, rt: &impl Print) {
+        match self {
+            Some(step) => {
+                next(rt, 1u8);
+                next(rt, step.old);
+                next(rt, step.new);
+            }
+            None => next(rt, 0u8),
         }
-        Report::Refused(k) => return refusal(rt, k),
     }
 }
 
-// Received: number time. One irrelevant: number. Range: from until. Up to: smallest.
-fn changed(t: &mut [u64], code: u64, first: u64, second: u64) -> Report
-    requires { GoodProxy t.old }
-    ensures { GoodProxy t.new }
-{
-    let number = signed(first);
-    match code {
-        RECEIVED => return received_changes_add(t, number, second),
-        IRRELEVANT => return set_irrelevant_change(t, number),
-        IRRELEVANT_RANGE => return irrelevant_changes_range(t, number, signed(second)),
-        _ => return irrelevant_changes_up_to(t, number),
+// 0 untracked; 1 not available; or 2 and the time received.
+fn told_status(rt: &impl Print, status: Option<Mark>) {
+    match status {
+        None => line(rt, 0u8),
+        Some(Mark::NotAvailable) => line(rt, 1u8),
+        Some(Mark::Received(time)) => pair(rt, 2u8, time),
     }
 }
 
-// What became of a change, the base after it, and the digest of the record.
-fn change(rt: &impl Print, t: &mut [u64], c: Call)
-    requires { GoodProxy t.old }
-    ensures { GoodProxy t.new }
-{
-    told_report(rt, changed(t, c.code, c.first, c.second));
-    next(rt, all_ackable_before(t));
-    next(rt, words_digest(t));
-    end(rt);
-}
-
-fn told_status(rt: &impl Print, s: Status) {
-    match s {
-        Status::Untracked => return line(rt, 0),
-        Status::NotAvailable => return line(rt, 1),
-        Status::Received(time) => return pair(rt, 2, time),
+// 0, or number and time.
+fn told_last(rt: &impl Print, last: Option<(u64, u64)>) {
+    match last {
+        None => line(rt, 0u8),
+        Some((number, time)) => pair(rt, number, time),
     }
 }
 
-fn told_last(rt: &impl Print, l: LastReceived) {
-    match l {
-        LastReceived::Nothing => return line(rt, 0),
-        LastReceived::Number(number, time) => return pair(rt, number, time),
+// A proxy by the rules.
+#[derive(Drop)]
+pub(crate) struct Proxy<'a> {
+    pub(crate) t: &'a mut [u64],
+    ghost good: { GoodProxy t.now } by { GoodProxy-prop t.now },
+}
+
+impl Proxy<'_> {
+    // Missing numbers: start end room.
+    fn missing(&self, rt: &impl Print, c: Args) {
+        let mut lent = [90i64; 300];
+        let Some(lent) = lent.get_mut(..c.at(2)) else {
+            return no_call(rt);
+        };
+        told(rt, &missing_seqnums(self.t, c.at(0), c.at(1), lent));
+        rest(rt, lent);
     }
-}
 
-// Ignored and status: number. Last and base: nothing.
-fn ask(rt: &impl Print, t: &[u64], code: u64, number: u64)
-    requires { GoodProxy t.now }
-{
-    match code {
-        IS_IGNORED => return flag(rt, should_ignore_change(t, signed(number))),
-        STATUS => return told_status(rt, change_status(t, signed(number))),
-        LAST => return told_last(rt, last_received(t)),
-        _ => return line(rt, all_ackable_before(t)),
+    // The calls that change the record. Received: number time. One irrelevant: number. Range: from until. Up to: smallest.
+    // What became of the change, the base after it, and the digest of the record.
+    fn change(&mut self, rt: &impl Print, code: ProxyCode, c: Args) {
+        let t = &mut *self.t;
+        let changed = match code {
+            ProxyCode::Received => received_changes_add(t, c.at(0), c.at(1)),
+            ProxyCode::Irrelevant => set_irrelevant_change(t, c.at(0)),
+            ProxyCode::IrrelevantRange => irrelevant_changes_range(t, c.at(0), c.at(1)),
+            _ => irrelevant_changes_up_to(t, c.at(0)),
+        };
+        told(rt, &changed);
+        next(rt, all_ackable_before(t));
+        next(rt, words_digest(t));
+        end(rt);
     }
-}
 
-// A refusal, or 0 and how many were listed.
-fn told_listing(rt: &impl Print, l: Listing) {
-    match l {
-        Listing::Refused(k) => return refusal(rt, k),
-        Listing::Listed(n) => return two(rt, 0, n as u64),
+    // The calls that leave the record as it is. Ignored and status: number. Last and base: nothing.
+    fn ask(&self, rt: &impl Print, code: ProxyCode, c: Args) {
+        match code {
+            ProxyCode::IsIgnored => line(rt, should_ignore_change(self.t, c.at(0))),
+            ProxyCode::Status => told_status(rt, change_status(self.t, c.at(0))),
+            ProxyCode::Last => told_last(rt, last_received(self.t)),
+            ProxyCode::Missing => self.missing(rt, c),
+            _ => line(rt, all_ackable_before(self.t)),
+        }
     }
-}
 
-// Missing numbers: start end room.
-fn list_missing(rt: &impl Print, t: &[u64], c: Call, lent: &mut [i64])
-    requires { GoodProxy t.now }
-{
-    let n = c.third as usize;
-    if lent.len() < n {
-        return no_call(rt);
-    }
-    told_listing(
-        rt,
-        missing_seqnums(t, signed(c.first), signed(c.second), &mut lent[..n]),
-    );
-    show_signed(rt, &lent[..n]);
-}
-
-fn list_lent(rt: &impl Print, t: &[u64], c: Call)
-    requires { GoodProxy t.now }
-{
-    let mut lent = [90i64; 300];
-    list_missing(rt, t, c, &mut lent);
-}
-
-pub(crate) fn call(rt: &impl Print, t: &mut [u64], c: Call)
-    requires { GoodProxy t.old }
-    ensures { GoodProxy t.new }
-{
-    let code = c.code;
-    match code {
-        SET_UP_PROXY => return start(rt, t),
-        SET_UP_PROXY_ON => return start_fresh(rt, c.first),
-        RECEIVED..=IRRELEVANT_UP_TO => return change(rt, t, c),
-        MISSING_NUMBERS => return list_lent(rt, t, c),
-        _ => return ask(rt, t, code, c.first),
+    pub(crate) fn call(&mut self, rt: &impl Print, code: ProxyCode, c: Args) {
+        match code {
+            ProxyCode::SetUp => start(rt, self.t),
+            ProxyCode::SetUpOn => start_fresh(rt, c),
+            ProxyCode::Received
+            | ProxyCode::Irrelevant
+            | ProxyCode::IrrelevantRange
+            | ProxyCode::IrrelevantUpTo => self.change(rt, code, c),
+            _ => self.ask(rt, code, c),
+        }
     }
 }
