@@ -12,7 +12,10 @@ use mir.Syntax.{w64}
 use mir.Val.{SFits}
 use borrow.Author.Tests.{ltb-true, ltb-false, eqb-true, eqb-false, not-true, not-false, ne_eqb}
 use Rattle.outcome.specs.Outcome.{Outcome, refused}
-use Rattle.outcome.specs.Answers.{set_up_said, SetUpReply, listing_said, ListReply}
+use Rattle.std.specs.Prelude.{Result}
+use Rattle.outcome.specs.Refusal.{said}
+use Rattle.outcome.specs.declared.Refusal.{Refusal}
+use Rattle.outcome.specs.Answers.{SetUpReply, ListReply}
 use Rattle.outcome.specs.Row.{row, verdict, numbered, Exactly, Refuses, shorter}
 use Rattle.sequence_number.specs.Number.{top, is_number, number_of}
 use Rattle.outcome.proofs.Split.{split, clash, both, neither}
@@ -25,15 +28,12 @@ use Rattle.fragment_assembler.specs.Refusal.{fragment_refusal, size_for}
 use Rattle.fragment_assembler.specs.Call.{FragmentReply, fragment_said, accepted_fragment, fragment}
 use Rattle.fragment_assembler.specs.SetUp.{fresh_assembler, set_up_assembler, set_up_refusal}
 use Rattle.assembly_record.specs.Stale.{stale_numbers}
-use Rattle.fragment_assembler.specs.Clean.{CleanReply, cleaned_said, clean}
+use Rattle.fragment_assembler.specs.Clean.{CleanReply, clean}
 use Rattle.fragment_assembler.specs.Missing.{missing_fragments, missing_fragments_for}
 use Rattle.fragment_assembler.specs.Promise.{SetsUpAssembler, TakesFragment, CleansAssembler, ListsFragments}
 use Rattle.assembly_record.specs.Words.{assembler_of, assembler_words}
 use Rattle.assembly_record.specs.Rules.{GoodAssembler}
-use Rattle.outcome.specs.declared.SetUp.{SetUp}
 use Rattle.fragment_assembler.specs.declared.fragment.Answer.{Answer}
-use Rattle.fragment_assembler.specs.declared.clean.Cleaned.{Cleaned}
-use Rattle.outcome.specs.declared.Listing.{Listing}
 use Rattle.fragment_assembler.proofs.RefusalLaws.{number_row}
 use Rattle.assembly_record.proofs.TableLaws.{at_free}
 use Rattle.assembly_record.proofs.WordsLaws.{length_table}
@@ -122,7 +122,7 @@ module _ (a : Assembler) (area : List ℕ) (number : ℤ) (fits : SFits w64 numb
   pub call_exactly : Exactly (verdict (fragment a area call).answer) (fragment_rows a area number fragment_size D k n)
   call_exactly = subst (λ (v : Outcome (Unit {0})). Exactly v (fragment_rows a area number fragment_size D k n)) (sym (call_number a area call)) call_rows
 
-pub fragment_rows_lem : (w w' area area' : List ℕ) (time : ℕ) (number : ℤ) (fragment_size D k n : ℕ) (payload : List ℕ) (r : Answer) → GoodAssembler w → SFits w64 number
+pub fragment_rows_lem : (w w' area area' : List ℕ) (time : ℕ) (number : ℤ) (fragment_size D k n : ℕ) (payload : List ℕ) (r : Result Answer Refusal) → GoodAssembler w → SFits w64 number
     → TakesFragment w area (fragment_with time (number_of number) fragment_size D k n payload) r w' area'
     → Refuses (verdict (fragment_said r)) (fragment_rows (assembler_of w) area number fragment_size D k n) ((w' ≡ w) × (area' ≡ area))
 fragment_rows_lem w w' area area' time number fragment_size D k n payload r g fits h =
@@ -180,9 +180,9 @@ module _ (f : ℕ) (reliable : Bool) (p : ℕ) (w : List ℕ) where
   pub set_up_exactly : Exactly (verdict (set_up_assembler f reliable p w).answer) (assembler_set_up_rows f reliable p w)
   set_up_exactly = subst (λ (v : Outcome (Unit {0})). Exactly v (assembler_set_up_rows f reliable p w)) (sym set_up_number) set_up_tests
 
-  pub set_up_rows : (w' : List ℕ) (r : SetUp) → SetsUpAssembler w f reliable p r w' → Refuses (verdict (set_up_said r)) (assembler_set_up_rows f reliable p w) (w' ≡ w)
+  pub set_up_rows : (w' : List ℕ) (r : Result (Unit {0}) Refusal) → SetsUpAssembler w f reliable p r w' → Refuses (verdict (said r)) (assembler_set_up_rows f reliable p w) (w' ≡ w)
   set_up_rows w' r h =
-      let e : verdict (set_up_said r) ≡ verdict (set_up_assembler f reliable p w).answer = ap (λ (x : SetUpReply). verdict x.answer) h.same in
+      let e : verdict (said r) ≡ verdict (set_up_assembler f reliable p w).answer = ap (λ (x : SetUpReply). verdict x.answer) h.same in
       record {
         exactly = subst (λ (v : Outcome (Unit {0})). Exactly v (assembler_set_up_rows f reliable p w)) (sym e) set_up_exactly;
         untouched = λ n x. ap (λ (y : SetUpReply). y.words) h.same ∙ set_up_leaves n (sym e ∙ x);
@@ -203,10 +203,10 @@ module _ (a : Assembler) (cutoff : ℕ) (out : List ℤ) where
   clean_leaves n e =
       split (ltb (length out) (length (stale_numbers cutoff a.places))) (λ t. rw t (refl, refl)) (λ t. absurd (not_refused n (rw t at e)))
 
-pub clean_rows : (w w' : List ℕ) (cutoff : ℕ) (out after : List ℤ) (r : Cleaned) → GoodAssembler w → CleansAssembler w cutoff out r w' after
-    → Refuses (verdict (cleaned_said r)) (shorter out (stale_numbers cutoff (assembler_of w).places) ∷ []) ((w' ≡ w) × (after ≡ out))
+pub clean_rows : (w w' : List ℕ) (cutoff : ℕ) (out after : List ℤ) (r : Result ℕ Refusal) → GoodAssembler w → CleansAssembler w cutoff out r w' after
+    → Refuses (verdict (said r)) (shorter out (stale_numbers cutoff (assembler_of w).places) ∷ []) ((w' ≡ w) × (after ≡ out))
 clean_rows w w' cutoff out after r g h =
-    let e : verdict (cleaned_said r) ≡ verdict (clean (assembler_of w) cutoff out).answer = ap (λ (x : CleanReply). verdict x.answer) h.same in
+    let e : verdict (said r) ≡ verdict (clean (assembler_of w) cutoff out).answer = ap (λ (x : CleanReply). verdict x.answer) h.same in
     record {
       exactly =
           subst (λ (v : Outcome (Unit {0})). Exactly v (shorter out (stale_numbers cutoff (assembler_of w).places) ∷ [])) (sym e)
@@ -228,10 +228,10 @@ module _ (a : Assembler) (N : ℕ) (out : List ℕ) where
   unfolding missing_fragments_for
   miss_leaves n e = split (ltb (length out) (length (missing_fragments a N))) (λ t. rw t refl) (λ t. absurd (not_refused n (rw t at e)))
 
-pub missing_rows_lem : (w : List ℕ) (number : ℤ) (out after : List ℕ) (r : Listing) → GoodAssembler w → ListsFragments w (number_of number) out r after
-    → Refuses (verdict (listing_said r)) (shorter out (missing_fragments (assembler_of w) (number_of number)) ∷ []) (after ≡ out)
+pub missing_rows_lem : (w : List ℕ) (number : ℤ) (out after : List ℕ) (r : Result ℕ Refusal) → GoodAssembler w → ListsFragments w (number_of number) out r after
+    → Refuses (verdict (said r)) (shorter out (missing_fragments (assembler_of w) (number_of number)) ∷ []) (after ≡ out)
 missing_rows_lem w number out after r g h =
-    let e : verdict (listing_said r) ≡ verdict (missing_fragments_for (assembler_of w) (number_of number) out).answer = ap (λ (x : ListReply ℕ). verdict x.answer) h.same in
+    let e : verdict (said r) ≡ verdict (missing_fragments_for (assembler_of w) (number_of number) out).answer = ap (λ (x : ListReply ℕ). verdict x.answer) h.same in
     record {
       exactly = subst (λ (v : Outcome (Unit {0})). Exactly v (shorter out (missing_fragments (assembler_of w) (number_of number)) ∷ [])) (sym e) (miss_exactly (assembler_of w) (number_of number) out);
       untouched = λ n x. ap (λ (y : ListReply ℕ). y.list) h.same ∙ miss_leaves (assembler_of w) (number_of number) out n (sym e ∙ x);

@@ -30,14 +30,15 @@ use Rattle.line_text.specs.Hex.{digit_of, all_hex, value_at}
 use Rattle.line_text.specs.Decimal.{line_of}
 use Rattle.line_text.specs.Held.{held_line}
 use Rattle.line_text.proofs.HexLaws.{digit_low, digit_decimal, digit_between, digit_upper, digit_between_cases, digit_lower, digit_high, hex_at, value_none, value_more, value_fits}
-use Rattle.replay_lines.specs.Frame.{parsed_said, frame_of, parsed}
+use Rattle.std.specs.Prelude.{Result, Ok, Err}
+use Rattle.outcome.specs.Refusal.{number_of_refusal, said}
+use Rattle.outcome.specs.declared.Refusal.{Refusal}
+use Rattle.replay_lines.specs.Frame.{frame_of, parsed}
 use Rattle.replay_lines.specs.Answer.{Step, counted, step_of, text_of, LineAnswered}
 use Rattle.replay_lines.specs.Feed.{Feeding, took, says}
 use Rattle.replay_lines.specs.declared.frame.Frame.{Frame}
 use Rattle.replay_lines.specs.declared.frame.Frame.TheVariants.{Received, Range, Missing}
-use Rattle.replay_lines.specs.declared.frame.Parsed.{Parsed}
-use Rattle.replay_lines.specs.declared.frame.Parsed.TheVariants.{Malformed, Reads}
-use Rattle.replay_lines.proofs.FrameLaws.{parsed_length, parsed_digit, parsed_frame, parsed_as, frame_other, frame_received, frame_range, frame_missing}
+use Rattle.replay_lines.proofs.FrameLaws.{parsed_length, parsed_digit, parsed_frame, frame_other, frame_received, frame_range, frame_missing}
 use Rattle.refusals.specs.RefusalTable.{Digit, WellFormed, malformed, frame_rows, line_rows, LineByRows}
 use Rattle.outcome.proofs.RowLaws.{none_left, holds, passes, asks, asks_not, asks_less, by_number}
 use Rattle.refusals.proofs.ProxyRows.{row_holds, row_fails, below_holds, below_fails}
@@ -75,7 +76,7 @@ unfolding all_hex
 all_digits [] f = refl
 all_digits (c ∷ s) f = rw (ne_eqb (digit_of c) 16 (digit_counts c (f 0 (omega arith)))) (all_digits s (λ i h. f (suc i) (omega arith)))
 
-not_both : (frame : Frame) → refused 1 ≡ done frame → ⊥
+not_both : {n : ℕ} (frame : Frame) → refused n ≡ done frame → ⊥
 not_both frame e = let z : ◌≡◌ {A = ℕ} 0 1 = cc in omega arith
 
 -- a digit below ten
@@ -110,8 +111,8 @@ module _ (line : List ℕ) where
   reads_kind : (frame : Frame) → parsed line ≡ done frame → (1 ≤ kind) × (kind ≤ 3)
   reads_kind frame e =
       let r = reads_digits frame e in
-      let f : parsed_said (frame_of kind first second) ≡ done frame = parsed_frame line r.0 r.1 ∙ e in
-      let other : (kind ≡ 1 → ⊥) → (kind ≡ 2 → ⊥) → (kind ≡ 3 → ⊥) → ⊥ = λ a b c. not_both frame (ap parsed_said (frame_other kind first second a b c) ∙ f) in (
+      let f : said (frame_of kind first second) ≡ done frame = parsed_frame line r.0 r.1 ∙ e in
+      let other : (kind ≡ 1 → ⊥) → (kind ≡ 2 → ⊥) → (kind ≡ 3 → ⊥) → ⊥ = λ a b c. not_both frame (ap said (frame_other kind first second a b c) ∙ f) in (
         ⊎_elim (λ h. absurd (other (λ z. omega arith) (λ z. omega arith) (λ z. omega arith))) (λ h. h) (split_lt kind 1),
         ⊎_elim (λ h. absurd (other (λ z. omega arith) (λ z. omega arith) (λ z. omega arith))) (λ h. h) (split_lt 3 kind),
       )
@@ -133,17 +134,17 @@ module _ (line : List ℕ) where
   form_reads : WellFormed line → parsed line ≡ refused 1 → ⊥
   form_reads w e =
       let a : all_hex line ≡ true = all_digits line (λ i h. w.digits i (omega (arith, w.long))) in
-      let f : parsed_said (frame_of kind first second) ≡ refused 1 = parsed_frame line w.long a ∙ e in
+      let f : said (frame_of kind first second) ≡ refused 1 = parsed_frame line w.long a ∙ e in
       let x = to_z w64 first in
       let y = to_z w64 second in
       let c = digit_decimal (get_or line 0 0) (omega (arith, w.first)) (omega (arith, w.first)) in
       let d = digit_decimal (get_or line 1 0) (omega (arith, w.second.0)) (omega (arith, w.second.1)) in
-      ⊎_elim (λ k. not_both (Received x second) (sym (ap parsed_said (frame_received kind first second x k refl) ∙ f)))
+      ⊎_elim (λ k. not_both (Received x second) (sym (ap said (frame_received kind first second x k refl) ∙ f)))
       (λ k.
-      ⊎_elim (λ m. not_both (Range x y) (sym (ap parsed_said (frame_range kind first second x y k m refl refl) ∙ f)))
+      ⊎_elim (λ m. not_both (Range x y) (sym (ap said (frame_range kind first second x y k m refl refl) ∙ f)))
       (λ m.
       not_both (Missing x y)
-      (sym (ap parsed_said (frame_missing kind first second x y k m (omega (arith, kind_digits, w.first, w.second.0, w.second.1)) refl refl) ∙ f)))
+      (sym (ap said (frame_missing kind first second x y k m (omega (arith, kind_digits, w.first, w.second.0, w.second.1)) refl refl) ∙ f)))
       (split_eq kind 2))
       (split_eq kind 1)
 
@@ -152,36 +153,62 @@ module _ (line : List ℕ) where
   received_fits n t e =
       let r = reads_digits (Received n t) e in
       let w = reads_kind (Received n t) e in
-      let f : parsed_said (frame_of kind first second) ≡ done (Received n t) = parsed_frame line r.0 r.1 ∙ e in
+      let f : said (frame_of kind first second) ≡ done (Received n t) = parsed_frame line r.0 r.1 ∙ e in
       let x = to_z w64 first in
       let y = to_z w64 second in
       ⊎_elim
       (λ k.
-      let same : done (Received x second) ≡ done (Received n t) = ap parsed_said (frame_received kind first second x k refl) ∙ f in
+      let same : done (Received x second) ≡ done (Received n t) = ap said (frame_received kind first second x k refl) ∙ f in
       let z : x ≡ n = cc in
       let l : first < 2 ^ 64 = value_fits line 2 16 r.1 (omega (arith, r.0)) (omega arith) in
       subst (SFits w64) z (sfits_to_z {w = w64} {n = first} (record { fits = l })))
       (λ k.
       ⊎_elim
       (λ m.
-      let same : done (Range x y) ≡ done (Received n t) = ap parsed_said (frame_range kind first second x y k m refl refl) ∙ f in
+      let same : done (Range x y) ≡ done (Received n t) = ap said (frame_range kind first second x y k m refl refl) ∙ f in
       let z : ◌≡◌ {A = ℕ} 0 1 = cc in absurd (omega arith))
       (λ m.
-      let same : done (Missing x y) ≡ done (Received n t) = ap parsed_said (frame_missing kind first second x y k m (omega (arith, w.0, w.1)) refl refl) ∙ f in
+      let same : done (Missing x y) ≡ done (Received n t) = ap said (frame_missing kind first second x y k m (omega (arith, w.0, w.1)) refl refl) ∙ f in
       let z : ◌≡◌ {A = ℕ} 0 1 = cc in absurd (omega arith))
       (split_eq kind 2))
       (split_eq kind 1)
 
-  -- the first row, of a line that reads as it does
-  read_rows : (p : Parsed) → parsed line ≡ parsed_said p → (v : Outcome (Unit {0})) (rows : List Row) → (parsed_said p ≡ refused 1 → v ≡ refused 1)
-      → ((frame : Frame) → parsed_said p ≡ done frame → Exactly v rows)
-      → Exactly v (malformed line ∷ rows)
-  read_rows Malformed e v rows bad good = rw (bad refl) (holds 1 (WellFormed line → ⊥) rows (λ w. form_reads w e))
-  read_rows (Reads frame) e v rows bad good = passes 1 (WellFormed line → ⊥) rows (λ f. f (reads_form frame e)) (good frame refl)
+  -- a line that does not read is refused with 1
+  refused_one : (n : ℕ) → parsed line ≡ refused n → n ≡ 1
+  refused_one n e =
+      ⊎_elim
+      (λ l.
+      split (all_hex line) (λ a. by_kind (parsed_frame line l a ∙ e)) (λ a. ap refusal (sym e ∙ sym (parsed_digit line l a))))
+      (λ l. ap refusal (sym e ∙ sym (parsed_length line l)))
+      (split_eq (length line) 34)
+    where
+      by_kind : said (frame_of kind first second) ≡ refused n → n ≡ 1
+      by_kind f =
+          let x = to_z w64 first in
+          let y = to_z w64 second in
+          ⊎_elim (λ k. absurd (not_both (Received x second) (sym (ap said (frame_received kind first second x k refl) ∙ f))))
+          (λ k.
+          ⊎_elim (λ m. absurd (not_both (Range x y) (sym (ap said (frame_range kind first second x y k m refl refl) ∙ f))))
+          (λ m.
+          ⊎_elim (λ o. absurd (not_both (Missing x y) (sym (ap said (frame_missing kind first second x y k m o refl refl) ∙ f))))
+          (λ o. ap refusal (sym f ∙ ap said (sym (frame_other kind first second k m o))))
+          (split_eq kind 3))
+          (split_eq kind 2))
+          (split_eq kind 1)
 
-  pub parse_rows : (r : Parsed) → parsed_said r ≡ parsed line → Exactly (verdict (parsed_said r)) (malformed line ∷ [])
-  parse_rows Malformed e = read_rows Malformed (sym e) (refused 1) [] (λ z. refl) (λ frame z. absurd (not_both frame z))
-  parse_rows (Reads frame) e = read_rows (Reads frame) (sym e) accepted [] (λ z. absurd (not_both frame (sym z))) (λ f z. none_left)
+  -- the first row, of a line that reads as it does
+  read_rows : (p : Outcome Frame) → parsed line ≡ p → (v : Outcome (Unit {0})) (rows : List Row) → ((n : ℕ) → p ≡ refused n → v ≡ refused 1)
+      → ((frame : Frame) → p ≡ done frame → Exactly v rows)
+      → Exactly v (malformed line ∷ rows)
+  read_rows (refused n) e v rows bad good =
+      rw (bad n refl) (holds 1 (WellFormed line → ⊥) rows (λ w. form_reads w (e ∙ ap refused (refused_one n e))))
+  read_rows (done frame) e v rows bad good = passes 1 (WellFormed line → ⊥) rows (λ f. f (reads_form frame e)) (good frame refl)
+
+  pub parse_rows : (r : Result Frame Refusal) → said r ≡ parsed line → Exactly (verdict (said r)) (malformed line ∷ [])
+  parse_rows (Ok frame) e = read_rows (done frame) (sym e) accepted [] (λ n z. absurd (not_both frame (sym z))) (λ f z. none_left)
+  parse_rows (Err x) e =
+      read_rows (refused (number_of_refusal x)) (sym e) (refused (number_of_refusal x)) [] (λ n z. ap refused (refused_one (number_of_refusal x) (sym e)))
+      (λ frame z. absurd (not_both frame z))
 
 -- ---- the refusal in an answer line
 
@@ -201,20 +228,22 @@ record Shows (x : Step) (rows : List Row) (s : Proxy) (list : List ℤ) : Type 0
   refuses : Refuses (numbered number) rows ((x.state ≡ s) × (x.list ≡ list))
 
 module _ (line : List ℕ) (s : Proxy) (list : List ℤ) where
-  shows : (p : Parsed) → parsed line ≡ parsed_said p → Shows (step_of (parsed_said p) s list) (line_rows line s list) s list
+  shows : (p : Outcome Frame) → parsed line ≡ p → Shows (step_of p s list) (line_rows line s list) s list
   unfolding step_of
-  shows Malformed e =
+  shows (refused n) e =
       record {
-        number = 1;
+        number = n;
         rest = s.base ∷ [];
         after = refl;
         refuses =
             record {
-              exactly = read_rows line Malformed e (refused 1) (frame_rows (parsed line) s list) (λ z. refl) (λ frame z. absurd (not_both frame z));
-              untouched = λ n z. (refl, refl);
+              exactly =
+                  read_rows line (refused n) e (numbered n) (frame_rows (parsed line) s list) (λ m z. ap numbered (refused_one line n e))
+                  (λ frame z. absurd (not_both frame z));
+              untouched = λ m z. (refl, refl);
             };
       }
-  shows (Reads (Received n t)) e =
+  shows (done (Received n t)) e =
       record {
         number = refusal (received n t s).answer;
         rest = (received n t s).state.base ∷ [];
@@ -222,15 +251,15 @@ module _ (line : List ℕ) (s : Proxy) (list : List ℤ) where
         refuses =
             record {
               exactly =
-                  read_rows line (Reads (Received n t)) e (numbered (refusal (received n t s).answer)) (frame_rows (parsed line) s list)
-                  (λ z. absurd (not_both (Received n t) (sym z)))
+                  read_rows line (done (Received n t)) e (numbered (refusal (received n t s).answer)) (frame_rows (parsed line) s list)
+                  (λ m z. absurd (not_both (Received n t) (sym z)))
                   (λ frame z.
                   rw (e, received_number n t s)
                   (asks_not numbered refl (is_number n) (row_holds n (received_fits line n t e)) (row_fails n (received_fits line n t e)) (λ h. none_left)));
               untouched = λ k z. (received_refused_same n s t k (by_number (received n t s).answer k z), refl);
             };
       }
-  shows (Reads (Range a b)) e =
+  shows (done (Range a b)) e =
       record {
         number = refusal (irrelevant_range a b s).answer;
         rest = (irrelevant_range a b s).state.base ∷ [];
@@ -238,13 +267,13 @@ module _ (line : List ℕ) (s : Proxy) (list : List ℤ) where
         refuses =
             record {
               exactly =
-                  read_rows line (Reads (Range a b)) e (numbered (refusal (irrelevant_range a b s).answer)) (frame_rows (parsed line) s list)
-                  (λ z. absurd (not_both (Range a b) (sym z)))
+                  read_rows line (done (Range a b)) e (numbered (refusal (irrelevant_range a b s).answer)) (frame_rows (parsed line) s list)
+                  (λ m z. absurd (not_both (Range a b) (sym z)))
                   (λ frame z. rw (e, range_number a b s) (asks numbered refl (lt_z b a) (below_holds b a) (below_fails b a) (λ h. none_left)));
               untouched = λ k z. (range_refused_same a b s k (by_number (irrelevant_range a b s).answer k z), refl);
             };
       }
-  shows (Reads (Missing start end)) e =
+  shows (done (Missing start end)) e =
       let some : List ℤ = take 256 list in
       let answer : Outcome ℕ = (missing_listed start end s some).answer in
       record {
@@ -254,8 +283,8 @@ module _ (line : List ℕ) (s : Proxy) (list : List ℤ) where
         refuses =
             record {
               exactly =
-                  read_rows line (Reads (Missing start end)) e (numbered (refusal answer)) (frame_rows (parsed line) s list)
-                  (λ z. absurd (not_both (Missing start end) (sym z)))
+                  read_rows line (done (Missing start end)) e (numbered (refusal answer)) (frame_rows (parsed line) s list)
+                  (λ m z. absurd (not_both (Missing start end) (sym z)))
                   (λ frame z.
                   rw (e, missing_number start end s some)
                   (asks numbered refl (eqb (nat_of end) top)
@@ -272,8 +301,7 @@ module _ (line : List ℕ) (s : Proxy) (list : List ℤ) where
   step_line : {W L : Type 0} → ((step_of (parsed line) s list).state ≡ s → W) → ((step_of (parsed line) s list).list ≡ list → L)
       → LineByRows (line_rows line s list) (text_of (step_of (parsed line) s list)) (W × L)
   step_line words lists =
-      let p = parsed_as line in
-      let t = rw p.1 at (shows p.0 (sym p.1)) in
+      let t = shows (parsed line) refl in
       record {
         kind = (step_of (parsed line) s list).kind;
         number = t.number;

@@ -93,7 +93,7 @@ ReadSet {N} k = (o : ByteOrder) (s : List ℕ) (r : Result (Taken N) Refusal) �
 
 -- "A set walked: 2, 4, 3"; 4: "a member past its type in a set walked (added)"
 abbrev pub walk_rows : {N : Type 0} (k : Kind N) → (N → Type 0) → NumberSet N → List N → List Row
-walk_rows k Past s out =
+walk_rows {N} k Past s out =
     row 2 (256 < s.count)
     ∷ row 4 ((m : N) × Memᴰ m (members k s) × Past m)
     ∷ shorter out (members k s)
