@@ -40,13 +40,7 @@ pub fn count_gaps(m: &[u64], n: usize) -> usize
     requires { (length m.now ≡ mark_words) × (n ≤ most_fragments) }
     ensures { result ≡ length (gaps m.now n) }
 {
-    let mut k = 0;
-    for i in 0..n {
-        if !is_marked(m, i) {
-            k += 1;
-        }
-    }
-    k
+    (0..n).filter(|j| !is_marked(m, *j)).count()
 }
 
 // The fragments that lack a mark among the first n, numbered from 1, in front of the lent list.
@@ -54,6 +48,7 @@ pub fn list_gaps(m: &[u64], n: usize, out: &mut [u32])
     requires { (length m.now ≡ mark_words) × ((n ≤ most_fragments) × (length (gaps m.now n) ≤ length out.old)) }
     ensures { out.new ≡ over (gaps m.now n) out.old }
 {
+    // k is counted by hand: of a list that is written through a `zip` the library says nothing.
     let mut k = 0;
     for i in 0..n {
         if !is_marked(m, i) {

@@ -1,4 +1,5 @@
 // A place of the table: one row of the record, lent on to what changes it.
+// It is cut out by its bounds: of rows lent as arrays (`as_chunks_mut`) the library does not say what the whole becomes.
 ghost use Rattle.std.specs.Prelude.{◌≡◌, ◌+◌, ◌<◌, ◌≤◌, length, get_or, set};
 ghost use Rattle.assembly_record.specs.Sizes.{place_count, most_fragments, row_size, assembler_size};
 ghost use Rattle.assembly_record.specs.State.{free_place, place_at};

@@ -9,7 +9,7 @@ use crate::settle::take_frags;
 use outcome::Refusal;
 
 // What a fragment message brings: `count` fragments from `start`. `data_size` is looked at only where it opens the sample.
-#[derive(Clone, Copy)]
+#[derive(Clone, Copy, Debug)]
 pub struct DataFrag<'a> {
     pub fragment_size: u16,
     pub data_size: u32,
@@ -19,7 +19,7 @@ pub struct DataFrag<'a> {
 }
 
 // What an accepted call answers: which thing happened to which number.
-#[derive(Drop)]
+#[derive(Clone, Copy, Debug, PartialEq, Eq)]
 pub enum Answer {
     Kept,
     Returned {
