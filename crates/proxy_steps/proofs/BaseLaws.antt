@@ -47,7 +47,7 @@ module _ (w : List ℕ) (n t : ℕ) (g : GoodProxy w) where
       rw (le-ltb (proxy_of w).last n k) g.made
 
 -- `advance_ack_base`: k is the place of b, and r how far the numbers from there on go b, b + 1, ..
-module _ (w : List ℕ) (g : GoodProxy w) (b k r : ℕ) (j : b ≤ top) (p : k ≡ rank b (tracked_in w)) (q : r ≡ run_len b (drop k (tracked_in w))) where
+module _ {w : List ℕ} (g : GoodProxy w) (b : ℕ) {k r : ℕ} (j : b ≤ top) (p : k ≡ rank b (tracked_in w)) (q : r ≡ run_len b (drop k (tracked_in w))) where
   high : RisingEntries b top (from b (tracked_in w))
   high = rising_from (proxy_of w).base top b (tracked_in w) g.ok.rising
 

@@ -73,8 +73,16 @@ fill_end w₀ w a b n f h =
 abbrev pub Room : List ℕ → ℕ → ℕ → Type 0
 Room w a b = GoodProxy w × ((proxy_of w).base ≤ a) × (a ≤ b) × (b ≤ top) × (length (put_each a (b - a) (proxy_of w)).tracked ≤ cap)
 
-module _ (w : List ℕ) (g : GoodProxy w) (a b x y T : ℕ) (h : (proxy_of w).base < a) (j : a ≤ b) (k : b ≤ top)
-    (at_a : x ≡ rank a (tracked_in w)) (at_b : y ≡ rank b (tracked_in w)) (t : T ≡ x + (b - a) + (get_or w 1 0 - y)) where
+-- the range's ends and their places
+pub record Ends (w : List ℕ) (a b x y : ℕ) : Type 0 where
+  pub good : GoodProxy w
+  pub above : (proxy_of w).base < a
+  pub order : a ≤ b
+  pub high : b ≤ top
+  pub at_a : x ≡ rank a (tracked_in w)
+  pub at_b : y ≡ rank b (tracked_in w)
+
+module _ {w : List ℕ} {a b x y : ℕ} (ends : Ends w a b x y) (T : ℕ) (t : T ≡ x + (b - a) + (get_or w 1 0 - y)) where
   -- the state with the range put, the cap not yet applied
   abbrev whole : Proxy
   whole = put_each a (b - a) (proxy_of w)
@@ -82,10 +90,10 @@ module _ (w : List ℕ) (g : GoodProxy w) (a b x y T : ℕ) (h : (proxy_of w).ba
   all : length whole.tracked ≡ T
   all =
       let u : a + (b - a) ≡ b = omega arith in
-      rw (t, at_a, at_b, g.count) (rw u at (length_each (b - a) a (proxy_of w) (good_rising w g) (omega arith)))
+      rw (t, ends.at_a, ends.at_b, ends.good.count) (rw u at (length_each (b - a) a (proxy_of w) (good_rising w ends.good) (omega arith)))
 
   pub room_few : T ≤ cap → Room w a b
-  room_few q = (g, omega arith, j, k, rw all q)
+  room_few q = (ends.good, omega (arith, ends.above), ends.order, ends.high, rw all q)
 
   pub range_few : (o : List ℕ) → T ≤ cap → o ≡ proxy_words whole → ProxyAnswers (Ok None) o (ended_proxy (proxy_of w) whole)
   range_few o q e =
@@ -99,13 +107,13 @@ module _ (w : List ℕ) (g : GoodProxy w) (a b x y T : ℕ) (h : (proxy_of w).ba
       (z : cut_to v whole ≡ put_each d (b - d) (cut_to v (proxy_of w))) where
     cut_made : set u 0 v ≡ proxy_words (cut_to v (proxy_of w))
     cut_made =
-        let l : drop n (tracked_in w) ≡ from v (tracked_in w) = rw p (from_drop 0 top v (tracked_in w) (good_rising w g)) in
-        of_laid (rebased v (with_tracked (drop n (tracked_in w)) (proxy_of w))) (base_laid (kept_of (with_tracked (drop n (tracked_in w)) (proxy_of w)) u (simp length-drop (omega (arith, g.ok.few))) e) v)
+        let l : drop n (tracked_in w) ≡ from v (tracked_in w) = rw p (from_drop 0 top v (tracked_in w) (good_rising w ends.good)) in
+        of_laid (rebased v (with_tracked (drop n (tracked_in w)) (proxy_of w))) (base_laid (kept_of (with_tracked (drop n (tracked_in w)) (proxy_of w)) u (simp length-drop (omega (arith, ends.good.ok.few))) e) v)
         refl refl refl refl refl refl refl
         ∙ ap (λ (i : List Entry). proxy_words (rebased v (with_tracked i (proxy_of w)))) l
 
     cut_ok : ProxyRules cap (cut_to v (proxy_of w))
-    cut_ok = ok_cut v (proxy_of w) g.ok lo (omega arith)
+    cut_ok = ok_cut v (proxy_of w) ends.good.ok lo (omega arith)
 
     cut_state : proxy_of (set u 0 v) ≡ cut_to v (proxy_of w)
     cut_state = state_of (cut_to v (proxy_of w)) (set u 0 v) (omega (arith, cut_ok.few)) cut_made
@@ -115,33 +123,33 @@ module _ (w : List ℕ) (g : GoodProxy w) (a b x y T : ℕ) (h : (proxy_of w).ba
       good_of (set u 0 v) (cut_to v (proxy_of w)) cut_ok cut_made,
       rw cut_state hi,
       m,
-      k,
+      ends.high,
       rw (cut_state, ← z) (omega (arith, all, length_split v whole.tracked)),
     )
 
     pub range_forced : (o : List ℕ) → o ≡ proxy_words (put_each d (b - d) (proxy_of (set u 0 v))) → ProxyAnswers (Ok (Some (record { old = get_or w 0 0; new = v }))) o (ended_proxy (proxy_of w) whole)
     range_forced o i =
         let l : RisingEntries whole.base top whole.tracked =
-        rw (base_each (b - a) a (proxy_of w)) (rising_each (b - a) a (proxy_of w).base (proxy_of w) g.ok.rising (omega arith) (omega arith)) in
+        rw (base_each (b - a) a (proxy_of w)) (rising_each (b - a) a (proxy_of w).base (proxy_of w) ends.good.ok.rising (omega arith) (omega arith)) in
         rw (ended_cut (proxy_of w) whole c v l f s (omega (arith, all)))
-        (ap (λ (y : ℕ). done (forced y v)) (base_word cap w (omega arith) g ∙ sym (base_each (b - a) a (proxy_of w))), i ∙ ap proxy_words (ap (put_each d (b - d)) cut_state ∙ sym z))
+        (ap (λ (y : ℕ). done (forced y v)) (base_word cap w (omega arith) ends.good ∙ sym (base_each (b - a) a (proxy_of w))), i ∙ ap proxy_words (ap (put_each d (b - d)) cut_state ∙ sym z))
 
   -- the range stays whole: the base is after the last entry that goes
   module _ (q : cap < T) (v : T - cap ≤ x) (e : ℕ) (c : e ≡ number_in (get_or (tracked_in w) (T - cap - 1) blank_entry)) where
     inside : T - cap - 1 < rank a (tracked_in w)
-    inside = omega (arith, at_a)
+    inside = omega (arith, ends.at_a)
 
     entry_is : T - cap - 1 < length (tracked_in w)
     entry_is = omega (arith, inside, rank_within a (tracked_in w))
 
     pub low_below : e + 1 ≤ a
-    low_below = omega (arith, rank_low (proxy_of w).base top a (T - cap - 1) (tracked_in w) g.ok.rising inside)
+    low_below = omega (arith, rank_low (proxy_of w).base top a (T - cap - 1) (tracked_in w) ends.good.ok.rising inside)
 
     low_above : (proxy_of w).base ≤ e
-    low_above = omega (arith, rising_get (proxy_of w).base top (T - cap - 1) (tracked_in w) g.ok.rising entry_is)
+    low_above = omega (arith, rising_get (proxy_of w).base top (T - cap - 1) (tracked_in w) ends.good.ok.rising entry_is)
 
     ranks : (rank e (tracked_in w) ≡ T - cap - 1) × (rank (suc e) (tracked_in w) ≡ suc (T - cap - 1))
-    ranks = rw c (rank_entry (proxy_of w).base top (T - cap - 1) (tracked_in w) g.ok.rising entry_is)
+    ranks = rw c (rank_entry (proxy_of w).base top (T - cap - 1) (tracked_in w) ends.good.ok.rising entry_is)
 
     low_last : rank (suc e) whole.tracked ≡ suc (rank e whole.tracked)
     low_last =
@@ -157,31 +165,31 @@ module _ (w : List ℕ) (g : GoodProxy w) (a b x y T : ℕ) (h : (proxy_of w).ba
     module _ (u : List ℕ) (z : u ≡ proxy_words (with_tracked (drop (T - cap) (tracked_in w)) (proxy_of w))) where
       pub room_low : Room (set u 0 (e + 1)) a b
       room_low =
-          room_forced q (T - cap) e (e + 1) a u z (omega arith) low_count (omega (arith, low_above)) low_below j low_last low_rank
+          room_forced q (T - cap) e (e + 1) a u z (omega arith) low_count (omega (arith, low_above)) low_below ends.order low_last low_rank
           (each_cut_low (b - a) a (e + 1) (proxy_of w) low_below)
 
       pub range_low : (o : List ℕ) → o ≡ proxy_words (put_each a (b - a) (proxy_of (set u 0 (e + 1)))) → ProxyAnswers (Ok (Some (record { old = get_or w 0 0; new = e + 1 }))) o (ended_proxy (proxy_of w) whole)
       range_low =
-          range_forced q (T - cap) e (e + 1) a u z (omega arith) low_count (omega (arith, low_above)) low_below j low_last low_rank
+          range_forced q (T - cap) e (e + 1) a u z (omega arith) low_count (omega (arith, low_above)) low_below ends.order low_last low_rank
           (each_cut_low (b - a) a (e + 1) (proxy_of w) low_below)
 
   -- of the range only the end stays, from v on
   module _ (i : x < T - cap) (v : ℕ) (c : v ≡ a + (T - cap - x)) (n : ℕ) (p : n ≡ rank v (tracked_in w)) (u : List ℕ)
       (z : u ≡ proxy_words (with_tracked (drop n (tracked_in w)) (proxy_of w))) where
     pub high_within : v ≤ b
-    high_within = omega (arith, g.count, g.ok.few)
+    high_within = omega (arith, ends.good.count, ends.good.ok.few)
 
     high_rank : rank v whole.tracked ≡ T - cap
     high_rank =
-        rw c (omega (arith, rank_each (b - a) (T - cap - x) a (proxy_of w) (good_rising w g) (omega (arith, high_within)) (omega arith), at_a))
+        rw c (omega (arith, rank_each (b - a) (T - cap - x) a (proxy_of w) (good_rising w ends.good) (omega (arith, high_within)) (omega arith), ends.at_a))
 
     high_last : rank (suc (v - 1)) whole.tracked ≡ suc (rank (v - 1) whole.tracked)
     high_last =
         let l : suc (v - 1) ≡ v = omega arith in
         let f : v - 1 ≡ a + (T - cap - x - 1) = omega arith in
         let r : rank (a + (T - cap - x - 1)) whole.tracked ≡ rank a (tracked_in w) + (T - cap - x - 1) =
-        rank_each (b - a) (T - cap - x - 1) a (proxy_of w) (good_rising w g) (omega (arith, high_within)) (omega arith) in
-        rw (l, f) (omega (arith, high_rank, r, at_a))
+        rank_each (b - a) (T - cap - x - 1) a (proxy_of w) (good_rising w ends.good) (omega (arith, high_within)) (omega arith) in
+        rw (l, f) (omega (arith, high_rank, r, ends.at_a))
 
     high_rest : cut_to v whole ≡ put_each v (b - v) (cut_to v (proxy_of w))
     high_rest =

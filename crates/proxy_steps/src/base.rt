@@ -28,8 +28,7 @@ pub(crate) fn advance_ack_base(t: &mut [u64], b: u64)
 {
     let k = rows::place(t, b);
     let r = rows::run_from(t, k, b);
-    let len = t[COUNT] as usize;
-    rows::shut_rows(t, len, k + r);
+    rows::shut_rows(t, k + r);
     t[BASE] = b + r as u64;
 }
 
@@ -38,13 +37,12 @@ pub(crate) fn enforce_change_map_cap(t: &mut [u64]) -> Option<Forced>
     requires { GoodProxyUpTo column_size t.old }
     ensures { ProxyAnswers (Ok result) t.new (ended_proxy (proxy_of t.old) (proxy_of t.old)) }
 {
-    let len = t[COUNT] as usize;
-    if len <= CAP {
+    if t[COUNT] <= CAP as u64 {
         return None;
     }
     let old = t[BASE];
     let new = old.max(rows::number_at(t, 0) + 1);
-    rows::shut_rows(t, len, 1);
+    rows::shut_rows(t, 1);
     t[BASE] = new;
     Some(Forced { old, new })
 }

@@ -37,10 +37,9 @@ pub fn range_above(t: &mut [u64], a: u64, b: u64) -> Option<Forced>
     ensures { ProxyAnswers (Ok result) t.new (ended_proxy (proxy_of t.old) (put_each a (b - a) (proxy_of t.old))) }
 {
     let old = t[BASE];
-    let len = t[COUNT] as usize;
     let x = rows::place(t, a);
     let y = rows::place(t, b);
-    let total = x as u64 + (b - a) + (len - y) as u64;
+    let total = x as u64 + (b - a) + (t[COUNT] - y as u64);
     if total <= CAP as u64 {
         fill(t, a, b);
         return None;
@@ -49,14 +48,14 @@ pub fn range_above(t: &mut [u64], a: u64, b: u64) -> Option<Forced>
     if k <= x as u64 {
         let i = k as usize;
         let new = rows::number_at(t, i - 1) + 1;
-        rows::shut_rows(t, len, i);
+        rows::shut_rows(t, i);
         t[BASE] = new;
         fill(t, a, b);
         return Some(Forced { old, new });
     }
     let new = a + (k - x as u64);
     let z = rows::place(t, new);
-    rows::shut_rows(t, len, z);
+    rows::shut_rows(t, z);
     t[BASE] = new;
     fill(t, new, b);
     Some(Forced { old, new })

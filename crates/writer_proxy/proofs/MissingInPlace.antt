@@ -25,9 +25,9 @@ use Rattle.writer_proxy.specs.Missing.{untracked_from, missing_numbers}
 use Rattle.writer_proxy.proofs.MissingLaws.{one_missing, missing_append, missing_count, missing_within, missing_none, missing_ends}
 
 -- `count_missing`: a and b are the places of lo and hi
-pub counted : (w : List ℕ) (lo hi a b : ℕ) → GoodProxy w → lo ≤ hi → a ≡ rank lo (tracked_in w) → b ≡ rank hi (tracked_in w)
+pub counted : {w : List ℕ} (lo hi : ℕ) {a b : ℕ} → GoodProxy w → lo ≤ hi → a ≡ rank lo (tracked_in w) → b ≡ rank hi (tracked_in w)
     → (a ≤ b) × (b - a ≤ hi - lo) × (hi - lo - (b - a) ≡ length (untracked_from lo (hi - lo) (tracked_in w)))
-counted w lo hi a b g h p q =
+counted {w} lo hi {a} {b} g h p q =
     let e : lo + (hi - lo) ≡ hi = omega arith in
     let c = rw e at (missing_count top lo (hi - lo) (tracked_in w) (good_rising w g)) in
     let m = missing_within lo (hi - lo) (tracked_in w) in
@@ -48,13 +48,13 @@ so_far_more lo n l h =
     let b : lo + (n - lo) ≡ n = omega arith in
     rw (a, missing_append lo (n - lo) 1 l, b)
 
-module _ (w : List ℕ) (g : GoodProxy w) (lo hi : ℕ) (out₀ : List ℤ) where
+module _ {w : List ℕ} (g : GoodProxy w) {lo hi : ℕ} {out₀ : List ℤ} where
   pub so_far_none : (i : ℕ) → lo ≤ hi → i ≡ rank lo (tracked_in w) → SoFar w lo hi out₀ out₀ i 0 lo
   so_far_none i h p =
       let e = missing_none lo (tracked_in w) in
       record { low = omega arith; high = h; place = p; many = rw e; room = omega arith; written = rw e }
 
-  module _ (out : List ℤ) (i m n : ℕ) (v : SoFar w lo hi out₀ out i m n) where
+  module _ {out : List ℤ} {i m n : ℕ} (v : SoFar w lo hi out₀ out i m n) where
     pub so_far_length : length out ≡ length out₀
     so_far_length = rw v.written (simp (length-append, length-map, length-drop) (omega (arith, v.many, v.room)))
 
@@ -123,10 +123,10 @@ is_last (negsuc n) e = absurd (omega arith)
 module _ (start end : ℤ) (fs : SFits w64 start) (fe : SFits w64 end) (w : List ℕ) (g : GoodProxy w) (last first lo hi : ℕ)
     (pe : last ≡ nat_of (to_z w64 (of_z w64 end))) (ps : first ≡ nat_of (to_z w64 (of_z w64 start))) (n : of_z w64 end ≡ top → ⊥)
     (l : lo ≡ max (get_or w 0 0) first) (h : hi ≡ max lo (last + 1)) where
-  pub end_open : nat_of end ≡ top → ⊥
+  end_open : nat_of end ≡ top → ⊥
   end_open z = n (is_last end z)
 
-  pub ends_order : (lo ≤ hi) × (hi ≤ top)
+  ends_order : (lo ≤ hi) × (hi ≤ top)
   ends_order =
       let a = nat_passed end last fe pe in
       let b = nat_passed start first fs ps in
@@ -134,9 +134,12 @@ module _ (start end : ℤ) (fs : SFits w64 start) (fe : SFits w64 end) (w : List
       let o : nat_of end < top = omega (arith, nat_top end fe, end_open) in
       (omega arith, omega (arith, nat_top start fs, g.ok.high))
 
-  pub ends_list : untracked_from lo (hi - lo) (tracked_in w) ≡ missing_numbers start end (proxy_of w)
+  ends_list : untracked_from lo (hi - lo) (tracked_in w) ≡ missing_numbers start end (proxy_of w)
   ends_list =
       let a = nat_passed end last fe pe in
       let b = nat_passed start first fs ps in
       let c = base_word cap w (omega arith) g in
       missing_ends start end (proxy_of w) [] lo hi (omega arith) (omega arith)
+
+  pub ends_found : (nat_of end ≡ top → ⊥) × (lo ≤ hi) × (hi ≤ top) × (untracked_from lo (hi - lo) (tracked_in w) ≡ missing_numbers start end (proxy_of w))
+  ends_found = (end_open, ends_order.0, ends_order.1, ends_list)

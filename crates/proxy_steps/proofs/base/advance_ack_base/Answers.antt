@@ -12,16 +12,16 @@ run_from-r-requires c =
 
 pub overflow_add-k : goal.overflow_add-k
 overflow_add-k c =
-    omega (arith, advance_within c.args.t.now c.requires.0 c.args.b c.place-k.result c.run_from-r.result c.requires.2 c.place-k.ensures c.run_from-r.ensures, c.requires.0.ok.few)
+    omega (arith, advance_within c.requires.0 c.args.b c.requires.2 c.place-k.ensures c.run_from-r.ensures, c.requires.0.ok.few)
 
 pub shut_rows-requires : goal.shut_rows-requires
 shut_rows-requires c =
-    (good_more _ c.requires.0, c.requires.0.count, omega (arith, c.requires.0.count, advance_within c.args.t.now c.requires.0 c.args.b c.place-k.result c.run_from-r.result c.requires.2 c.place-k.ensures c.run_from-r.ensures))
+    (good_more _ c.requires.0, omega (arith, advance_within c.requires.0 c.args.b c.requires.2 c.place-k.ensures c.run_from-r.ensures))
 
 pub overflow_add-t : goal.overflow_add-t
 overflow_add-t c =
-    omega (arith, advance_fits c.args.t.now c.requires.0 c.args.b c.place-k.result c.run_from-r.result c.requires.2 c.place-k.ensures c.run_from-r.ensures)
+    omega (arith, advance_fits c.requires.0 c.args.b c.requires.2 c.place-k.ensures c.run_from-r.ensures)
 
 pub returns : goal.returns
 returns c =
-    advanced c.args.t.now c.requires.0 c.args.b c.place-k.result c.run_from-r.result c.requires.2 c.place-k.ensures c.run_from-r.ensures c.shut_rows.new.t c.shut_rows.ensures
+    advanced c.requires.0 c.args.b c.requires.2 c.place-k.ensures c.run_from-r.ensures c.shut_rows.new.t c.shut_rows.ensures

@@ -3,8 +3,8 @@ use native.Mathlib.Omega.{arith}
 use Rattle.proxy_steps.proofs.BaseLaws.{cap_none, cap_one}
 use Rattle.proxy_steps.proofs.base.enforce_change_map_cap.Goals as goal
 
-pub returns-then-len-le-CAP : goal.returns-then-len-le-CAP
-returns-then-len-le-CAP c = cap_none _ c.requires (omega (arith, c.if-len-le-CAP.true))
+pub returns-then-t : goal.returns-then-t
+returns-then-t c = cap_none _ c.requires (omega (arith, c.if-t.true))
 
 pub returns : goal.returns
-returns c = cap_one _ c.requires _ _ _ c.if-len-le-CAP.false c.number_at.ensures c.max-new.ensures c.shut_rows.ensures
+returns c = cap_one _ c.requires _ _ _ c.if-t.false c.number_at.ensures c.max-new.ensures c.shut_rows.ensures

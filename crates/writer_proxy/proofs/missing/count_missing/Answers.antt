@@ -4,12 +4,12 @@ use Rattle.writer_proxy.proofs.missing.count_missing.Goals as goal
 
 pub overflow_sub-result-2 : goal.overflow_sub-result-2
 overflow_sub-result-2 c =
-    (counted c.args.t.now c.args.lo c.args.hi _ _ c.requires.0 c.requires.1 c.place-a.ensures c.place-b.ensures).0
+    (counted c.args.lo c.args.hi c.requires.0 c.requires.1 c.place-a.ensures c.place-b.ensures).0
 
 pub overflow_sub-result-3 : goal.overflow_sub-result-3
 overflow_sub-result-3 c =
-    (counted c.args.t.now c.args.lo c.args.hi _ _ c.requires.0 c.requires.1 c.place-a.ensures c.place-b.ensures).1
+    (counted c.args.lo c.args.hi c.requires.0 c.requires.1 c.place-a.ensures c.place-b.ensures).1
 
 pub returns : goal.returns
 returns c =
-    (counted c.args.t.now c.args.lo c.args.hi _ _ c.requires.0 c.requires.1 c.place-a.ensures c.place-b.ensures).2
+    (counted c.args.lo c.args.hi c.requires.0 c.requires.1 c.place-a.ensures c.place-b.ensures).2

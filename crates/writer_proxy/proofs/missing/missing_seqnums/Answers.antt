@@ -10,7 +10,7 @@ use Rattle.sequence_number.specs.Number.{top, nat_of}
 use Rattle.proxy_record.specs.Words.{proxy_of, tracked_in}
 use Rattle.writer_proxy.specs.Missing.{untracked_from, missing_numbers}
 use Rattle.writer_proxy.proofs.MissingLaws.{listed_last, listed_short, listed_all}
-use Rattle.writer_proxy.proofs.MissingInPlace.{last_is, end_open, ends_order, ends_list}
+use Rattle.writer_proxy.proofs.MissingInPlace.{last_is, ends_found}
 use Rattle.writer_proxy.proofs.missing.missing_seqnums.Goals as goal
 use Rattle.writer_proxy.proofs.missing.missing_seqnums.Goals.{After-max-hi}
 
@@ -21,13 +21,7 @@ ends : (c : After-max-hi)
     (nat_of c.args.end ≡ top → ⊥) × (lo ≤ hi) × (hi ≤ top) × (untracked_from lo (hi - lo) (tracked_in c.args.t.now) ≡ missing_numbers c.args.start c.args.end (proxy_of c.args.t.now))
 ends c =
     let a = c.args in
-    let n = c.if-end-eq9223372036854775807.false in
-    let o = ends_order a.start a.end c.ranges.start c.ranges.end a.t.now c.requires _ _ _ _ c.natural-2.ensures c.natural.ensures n c.max-lo.ensures c.max-hi.ensures in (
-      end_open a.start a.end c.ranges.start c.ranges.end a.t.now c.requires _ _ _ _ c.natural-2.ensures c.natural.ensures n c.max-lo.ensures c.max-hi.ensures,
-      o.0,
-      o.1,
-      ends_list a.start a.end c.ranges.start c.ranges.end a.t.now c.requires _ _ _ _ c.natural-2.ensures c.natural.ensures n c.max-lo.ensures c.max-hi.ensures,
-    )
+    ends_found a.start a.end c.ranges.start c.ranges.end a.t.now c.requires _ _ _ _ c.natural-2.ensures c.natural.ensures c.if-end-eq9223372036854775807.false c.max-lo.ensures c.max-hi.ensures
 
 pub returns-then-end-eq9223372036854775807 : goal.returns-then-end-eq9223372036854775807
 returns-then-end-eq9223372036854775807 c =
