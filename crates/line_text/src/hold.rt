@@ -33,7 +33,7 @@ impl<const N: usize> Held<N> {
 }
 
 // The first count bytes, or all where there are no more.
-pub fn front<'a>(bytes: &'a [u8], count: usize) -> &'a [u8]
+pub fn front(bytes: &[u8], count: usize) -> &[u8]
     ensures { result.now ≡ take count bytes.now }
 {
     bytes.get(..count).unwrap_or(bytes)
