@@ -2,6 +2,19 @@
 ghost use Rattle.std.specs.Prelude.{◌≡◌, length, take};
 ghost use Rattle.line_text.specs.Held.{holding, held_line, held_on};
 
+// One byte more among the first count of those lent, where there is room, and else passed over: how many are held then. It stays beside
+// `Held`, which holds an array, since it takes any slice.
+#[tactic(auto, unfolding(crate::specs::Held::held_on))]
+pub fn hold(held: &mut [u8], count: usize, byte: u8) -> usize
+    ensures { holding held.new result ≡ held_on byte (holding held.old count) }
+{
+    if count < held.len() {
+        held[count] = byte;
+        return count + 1;
+    }
+    count
+}
+
 // Room for the bytes of a line, and how many are held; a count past the room holds them all.
 #[derive(Drop)]
 pub struct Held<const N: usize> {
@@ -14,14 +27,10 @@ pub struct Held<const N: usize> {
 
 impl<const N: usize> Held<N> {
     // One byte more, held where there is room and else passed over.
-    #[tactic(auto, unfolding(crate::specs::Held::held_on))]
     pub fn push(&mut self, byte: u8)
         ensures { holding self.new.bytes self.new.count ≡ held_on byte (holding self.old.bytes self.old.count) }
     {
-        if self.count < self.bytes.len() {
-            self.bytes[self.count] = byte;
-            self.count += 1;
-        }
+        self.count = hold(&mut self.bytes, self.count, byte);
     }
 
     // The bytes that are held.
