@@ -6,6 +6,7 @@ use crate::args::Args;
 use crate::codes::ProxyCode;
 use crate::digest::words_digest;
 use crate::out::{Found, end, line, next, no_call, pair, rest, told};
+use outcome::Refusal;
 use proxy_record::Mark;
 use proxy_steps::Forced;
 use writer_proxy::irrelevant::{
@@ -83,19 +84,11 @@ impl Proxy<'_> {
         rest(rt, lent);
     }
 
-    // The calls that change the record. Received: number time. One irrelevant: number. Range: from until. Up to: smallest.
-    // What became of the change, the base after it, and the digest of the record.
-    fn change(&mut self, rt: &impl Print, code: ProxyCode, c: Args) {
-        let t = &mut *self.t;
-        let changed = match code {
-            ProxyCode::Received => received_changes_add(t, c.at(0), c.at(1)),
-            ProxyCode::Irrelevant => set_irrelevant_change(t, c.at(0)),
-            ProxyCode::IrrelevantRange => irrelevant_changes_range(t, c.at(0), c.at(1)),
-            _ => irrelevant_changes_up_to(t, c.at(0)),
-        };
+    // What became of a change, the base after it, and the digest of the record.
+    fn told_change(&self, rt: &impl Print, changed: Result<Option<Forced>, Refusal>) {
         told(rt, &changed);
-        next(rt, all_ackable_before(t));
-        next(rt, words_digest(t));
+        next(rt, all_ackable_before(self.t));
+        next(rt, words_digest(self.t));
         end(rt);
     }
 
@@ -110,15 +103,17 @@ impl Proxy<'_> {
         }
     }
 
+    // Received: number time. One irrelevant: number. Range: from until. Up to: smallest.
     pub(crate) fn call(&mut self, rt: &impl Print, code: ProxyCode, c: Args) {
-        match code {
-            ProxyCode::SetUp => start(rt, self.t),
-            ProxyCode::SetUpOn => start_fresh(rt, c),
-            ProxyCode::Received
-            | ProxyCode::Irrelevant
-            | ProxyCode::IrrelevantRange
-            | ProxyCode::IrrelevantUpTo => self.change(rt, code, c),
-            _ => self.ask(rt, code, c),
-        }
+        let changed = match code {
+            ProxyCode::SetUp => return start(rt, self.t),
+            ProxyCode::SetUpOn => return start_fresh(rt, c),
+            ProxyCode::Received => received_changes_add(self.t, c.at(0), c.at(1)),
+            ProxyCode::Irrelevant => set_irrelevant_change(self.t, c.at(0)),
+            ProxyCode::IrrelevantRange => irrelevant_changes_range(self.t, c.at(0), c.at(1)),
+            ProxyCode::IrrelevantUpTo => irrelevant_changes_up_to(self.t, c.at(0)),
+            _ => return self.ask(rt, code, c),
+        };
+        self.told_change(rt, changed);
     }
 }
