@@ -20,7 +20,7 @@ pub enum Mark {
 }
 
 impl Mark {
-    // The two words that it is kept as: its kind and its time.
+    // The two words that it is kept as: its kind and its time. Not `From`: how a mark lies in the record is for this crate alone.
     pub(crate) fn words(self) -> (u64, u64)
         ensures { result ≡ (kind_of self, time_of self) }
     {
