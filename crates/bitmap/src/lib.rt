@@ -1,4 +1,5 @@
-// The bits of a set's words: asked, and set from a list of members.
+// The bits of a set's words: asked, and set from a list of members. `count ≤ 256` is a clause here and above, not a type: a set is public with any
+// count and refuses more by itself, and a struct with that rule would be made for one call each.
 #![tactic(auto)]
 
 ghost use Rattle.std.specs.Prelude.{◌≡◌, ◌-◌, ◌%◌, ◌≤◌};

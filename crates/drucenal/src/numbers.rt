@@ -9,7 +9,7 @@ use outcome::Refusal;
 use sequence_number::ByteOrder;
 use sequence_number::kind::Number;
 
-// big: the most significant byte of a word first.
+// big: the most significant byte of a word first. C passes a bool.
 pub(crate) fn order_of(big: bool) -> ByteOrder
     ensures { result ≡ order_of big }
 {

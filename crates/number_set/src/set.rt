@@ -32,13 +32,13 @@ impl<N: Number> NumberSet<N> {
     pub fn read_from(o: ByteOrder, s: &[u8]) -> Result<Taken<N>, Refusal>
         ensures { said result ≡ read_set N.kind o s.now }
     {
-        let count = read_count(N::SIZE, o, s)?;
+        let count = read_count::<N>(o, s)?;
         let base = N::read(o, s, 0);
         let words = read_words(o, s, N::SIZE + 4, word_count(count));
         let set = NumberSet { base, count, words };
         Ok(Taken {
             set,
-            taken: set_length(N::SIZE, count),
+            taken: set_length::<N>(count),
         })
     }
 
@@ -46,7 +46,7 @@ impl<N: Number> NumberSet<N> {
     pub fn write_to(self, o: ByteOrder, out: &mut [u8]) -> Result<usize, Refusal>
         ensures { WritesSet N.kind o self out.old result out.new }
     {
-        let n = write_room(N::SIZE, self.count, out.len())?;
+        let n = write_room::<N>(self.count, out.len())?;
         self.base.write(o, out, 0);
         write_bits(o, self.count, self.words, out, N::SIZE);
         Ok(n)
@@ -59,6 +59,6 @@ impl<N: Number> NumberSet<N> {
         if 256 < self.count {
             return Err(Refusal::TooManyBits);
         }
-        Ok(set_length(N::SIZE, self.count))
+        Ok(set_length::<N>(self.count))
     }
 }

@@ -50,7 +50,7 @@ impl<N: Number> NumberSet<N> {
         Ok(())
     }
 
-    // The members to the lent list, rising where up holds, else falling; 2, 4, 3.
+    // The members to the lent list, rising where up holds, else falling; 2, 4, 3. The way is a bool, as C passes it: a closure would only hide the two walks.
     pub fn iter(self, up: bool, out: &mut [N]) -> Result<usize, Refusal>
         ensures { Walks N.kind self up out.old result out.new }
     {

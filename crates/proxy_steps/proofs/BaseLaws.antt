@@ -80,11 +80,6 @@ module _ (w : List ℕ) (g : GoodProxyUpTo column_size w) where
       let k : length (tracked_in w) ≤ cap = omega (arith, g.count) in
       rw (ended_few (proxy_of w) (proxy_of w) k) (refl, g.made)
 
-  pub cap_top : (x : ℕ) → cap < get_or w 1 0 → x ≡ number_in (get_or (tracked_in w) 0 blank_entry) → x < top
-  cap_top x h e =
-      let k : 0 < length (tracked_in w) = omega (arith, g.count) in
-      omega (arith, rising_top (proxy_of w).base top 0 (tracked_in w) g.ok.rising k)
-
   pub cap_one : (b x : ℕ) (u : List ℕ) → cap < get_or w 1 0 → x ≡ number_in (get_or (tracked_in w) 0 blank_entry) → b ≡ max (get_or w 0 0) (x + 1)
       → u ≡ proxy_words (with_tracked (drop 1 (tracked_in w)) (proxy_of w)) → ProxyAnswers (Ok (Some (record { old = get_or w 0 0; new = b }))) (set u 0 b) (ended_proxy (proxy_of w) (proxy_of w))
   unfolding ended_proxy capped

@@ -49,10 +49,3 @@ module _ (line : List ℕ) where
   pub parsed_frame : length line ≡ 34 → all_hex line ≡ true → said (frame_of (value_at line 0 2) (value_at line 2 16) (value_at line 18 16)) ≡ parsed line
   unfolding parsed
   parsed_frame n a = rw (eq-eqb (length line) 34 n, a)
-
-  -- every line is read as some answer of the code
-  pub parsed_as : (p : Result Frame Refusal) × (said p ≡ parsed line)
-  parsed_as =
-      ⊎_elim (λ n. split (all_hex line) (λ a. (frame_of (value_at line 0 2) (value_at line 2 16) (value_at line 18 16), parsed_frame n a)) (λ a. (Err EndsEarly, parsed_digit n a)))
-      (λ n. (Err EndsEarly, parsed_length n))
-      (split_eq (length line) 34)

@@ -29,11 +29,6 @@ number_is (pos n) k e =
     (λ a. inl (rw (le-ltb 0 n a) at e, rw (le-ltb 0 n a)))
     (split_lt 0 n)
 
--- the same of a signed number that went through a call
-pub number_passed : (n : ℤ) (k : ℕ) → SFits w64 n → k ≡ number_of (to_z w64 (of_z w64 n))
-    → ((k ≡ 0) × (is_number n ≡ false)) ⊎ ((0 < k) × (k < top) × (is_number n ≡ true) × (k ≡ nat_of n))
-number_passed n k f e = number_is n k (rw (to_z-of_z f) at e)
-
 -- what is said of the number where it is handed out, and where nothing is
 pub some_taken : (n : ℤ) (k : ℕ) → Some k ≡ taken n → (0 < k) × (k < top) × (is_number n ≡ true) × (k ≡ nat_of n) × (k ≡ number_of n)
 some_taken n k e = split (is_number n) (λ h. go (number_is n (number_of n) refl) h (rw h at e)) (λ h. absurd (none_some (rw h at e)))

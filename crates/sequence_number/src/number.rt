@@ -12,7 +12,7 @@ pub fn number_of(n: i64) -> Option<u64>
     Some(n as u64)
 }
 
-// The number, or 0 for a negative one.
+// The number, or 0 for a negative one; `try_from(n).unwrap_or(0)` says no more.
 pub fn natural(n: i64) -> u64
     ensures { result ≡ nat_of n }
 {

@@ -1,4 +1,4 @@
-// A set's count and words on the wire, and its length: of either width, whose base takes so many bytes.
+// A set's count and words on the wire, and its length: of either kind of number.
 #![tactic(auto)]
 
 ghost use Rattle.std.specs.Prelude.{◌≡◌, ◌+◌, ◌*◌, ◌≤◌, length};
@@ -8,6 +8,7 @@ ghost use Rattle.set_words.specs.SetWords.{word_count, set_length, read_count, r
 
 use outcome::Refusal;
 use sequence_number::ByteOrder;
+use sequence_number::kind::Number;
 use sequence_number::word::{read_word, write_word};
 
 // How many words hold so many bits.
@@ -17,28 +18,26 @@ pub fn word_count(count: u32) -> usize
     count.div_ceil(32) as usize
 }
 
-// How many bytes a set takes whose base takes size bytes: of either width.
-pub fn set_length(size: usize, count: u32) -> usize
-    requires size_bound { size ≤ 8 }
-    requires count_bound { count ≤ 256 }
-    ensures { result ≡ set_length size count }
+// How many bytes a set takes.
+pub fn set_length<N: Number>(count: u32) -> usize
+    requires { count ≤ 256 }
+    ensures { result ≡ set_length N.kind.size count }
 {
-    size + 4 + 4 * word_count(count)
+    N::SIZE + 4 + 4 * word_count(count)
 }
 
-// The count of a set whose base takes size bytes: of either width.
-pub fn read_count(size: usize, o: ByteOrder, s: &[u8]) -> Result<u32, Refusal>
-    requires { size ≤ 8 }
-    ensures { said result ≡ read_count size o s.now }
+// The count of a set, which stands after its base.
+pub fn read_count<N: Number>(o: ByteOrder, s: &[u8]) -> Result<u32, Refusal>
+    ensures { said result ≡ read_count N.kind.size o s.now }
 {
-    if s.len() < size + 4 {
+    if s.len() < N::SIZE + 4 {
         return Err(Refusal::EndsEarly);
     }
-    let count = read_word(o, s, size);
+    let count = read_word(o, s, N::SIZE);
     if 256 < count {
         return Err(Refusal::TooManyBits);
     }
-    if s.len() < set_length(size, count) {
+    if s.len() < set_length::<N>(count) {
         return Err(Refusal::EndsEarly);
     }
     Ok(count)
@@ -68,7 +67,7 @@ fn write_words(o: ByteOrder, words: [u32; 8], n: usize, out: &mut [u8], at: usiz
     }
 }
 
-// The count and its words to a place: of either width.
+// The count and its words to a place.
 pub fn write_bits(o: ByteOrder, count: u32, words: [u32; 8], out: &mut [u8], at: usize)
     requires count_bound { count ≤ 256 }
     requires count_in_bounds { at + 4 + 4 * word_count count ≤ length out.old }
@@ -78,15 +77,14 @@ pub fn write_bits(o: ByteOrder, count: u32, words: [u32; 8], out: &mut [u8], at:
     write_words(o, words, word_count(count), out, at + 4);
 }
 
-// What writing a set with a base of size bytes answers: of either width.
-pub fn write_room(size: usize, count: u32, room: usize) -> Result<usize, Refusal>
-    requires { size ≤ 8 }
-    ensures { said result ≡ write_set size count room }
+// What writing a set to so many bytes answers.
+pub fn write_room<N: Number>(count: u32, room: usize) -> Result<usize, Refusal>
+    ensures { said result ≡ write_set N.kind.size count room }
 {
     if 256 < count {
         return Err(Refusal::TooManyBits);
     }
-    let n = set_length(size, count);
+    let n = set_length::<N>(count);
     if room < n {
         return Err(Refusal::ShortOutput);
     }
