@@ -18,12 +18,7 @@ pub fn drucenal_assembler_set_up(
 ) -> u32
     ensures { SetsUpAssemblerOut words.old fragment_size reliable place_size result words.new }
 {
-    number(fragment_assembler::set_up::set_up(
-        words,
-        fragment_size,
-        reliable,
-        place_size,
-    ))
+    number(fragment_assembler::set_up::set_up(words, fragment_size, reliable, place_size))
 }
 
 pub fn drucenal_assembler_new_datafrag(
@@ -54,11 +49,13 @@ pub fn drucenal_assembler_new_datafrag(
     let (kind, whose, at, long) = match new_datafrag(words, area, time, number, frag) {
         Err(refusal) => return refusal.into(),
         Ok(Answer::Kept) => (0, 0, 0, 0),
-        Ok(Answer::Returned {
-            number: n,
-            place: i,
-            length: d,
-        }) => (1, n, i, d),
+        Ok(
+            Answer::Returned {
+                number: n,
+                place: i,
+                length: d,
+            },
+        ) => (1, n, i, d),
         Ok(Answer::Dropped(n)) => (2, n, 0, 0),
     };
     *what = kind;

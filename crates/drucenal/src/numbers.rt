@@ -45,7 +45,10 @@ pub(crate) fn give<T: Drop>(found: Result<T, Refusal>, to: &mut T) -> u32
 pub fn drucenal_read_number<N: Number>(big: bool, bytes: &[u8], number: &mut N) -> u32
     ensures { Gives (read_number N.kind (order_of big) bytes.now) number.old result number.new }
 {
-    give(sequence_number::wire::read_number(order_of(big), bytes), number)
+    give(
+        sequence_number::wire::read_number(order_of(big), bytes),
+        number,
+    )
 }
 
 pub fn drucenal_write_number<N: Number>(big: bool, n: N, out: &mut [u8]) -> u32
