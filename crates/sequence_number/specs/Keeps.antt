@@ -75,7 +75,6 @@ fits_below (negsuc a) k m h t = go (dec_lt k (suc a)) (dec_lt m (suc a)) t
 abbrev pub sequence_lawful : Lawful sequence_number
 sequence_lawful =
     record {
-      size_most = omega arith;
       length_number = length_sequence;
       rank = nat_of;
       rank_below = rank_below;
@@ -91,7 +90,6 @@ sequence_lawful =
 abbrev pub fragment_lawful : Lawful fragment_number
 fragment_lawful =
     record {
-      size_most = omega arith;
       length_number = length_bytes;
       rank = λ n. n;
       rank_below = λ a b h. omega (arith, ltb-true a b h);

@@ -4,7 +4,6 @@ use Rattle.sequence_number.specs.Kind.{Kind}
 use Rattle.sequence_number.specs.declared.ByteOrder.{ByteOrder}
 
 pub record Lawful {N : Type 0} (k : Kind N) : Type 0 where
-  pub size_most : k.size ≤ 8
   pub length_number : (o : ByteOrder) (n : N) → length (k.number_bytes o n) ≡ k.size
   -- where a number stands among the naturals, a negative one at 0
   pub rank : N → ℕ

@@ -1,5 +1,6 @@
 // The two kinds of number, `i64` for sequences and `u32` for fragments: what generic code asks of either.
 ghost use Rattle.std.specs.Prelude.{◌≡◌, refl, true, ℕ, ◌+◌, ◌≤◌, ◌<◌, ltb, length, pos};
+ghost use Rattle.std.proofs.Common.{rules};
 ghost use Rattle.std.proofs.lemmas.List.Edits.{sets};
 ghost use Rattle.sequence_number.specs.Kind.{Kind, sequence_number, fragment_number};
 ghost use Rattle.sequence_number.specs.Lawful.{Lawful};
@@ -51,6 +52,8 @@ pub trait Number: Copy {
 
     ghost size_is: { kind.size ≡ SIZE };
 
+    ghost size_most: { kind.size ≤ 8 };
+
     ghost least_is: { kind.least ≡ LEAST };
 
     ghost laws: { Lawful kind };
@@ -69,6 +72,8 @@ impl Number for i64 {
 
     ghost size_is = { refl };
 
+    ghost size_most = { Prim.search rules };
+
     ghost least_is = { refl };
 
     ghost laws = { sequence_lawful };
@@ -76,14 +81,14 @@ impl Number for i64 {
     fn read(o: ByteOrder, s: &[u8], at: usize) -> i64 {
         let high = read_word(o, s, at) as u64;
         let low = read_word(o, s, at + 4) as u64;
-        let u = high * 4294967296 + low;
+        let u = (high << 32) | low;
         u.cast_signed()
     }
 
     fn write(self, o: ByteOrder, out: &mut [u8], at: usize) {
         let bits = self.cast_unsigned();
-        write_word(o, (bits / 4294967296) as u32, out, at);
-        write_word(o, (bits % 4294967296) as u32, out, at + 4);
+        write_word(o, (bits >> 32) as u32, out, at);
+        write_word(o, (bits & 0xffff_ffff) as u32, out, at + 4);
     }
 
     fn plus(self, i: u32) -> i64 {
@@ -91,13 +96,10 @@ impl Number for i64 {
     }
 
     fn fit(self) -> u32 {
-        let u = self.cast_unsigned();
-        if u < 9223372036854775552 {
+        if self < 0 {
             256
-        } else if u < 9223372036854775808 {
-            (9223372036854775808 - u) as u32
         } else {
-            256
+            (i64::MAX - self).min(255) as u32 + 1
         }
     }
 
@@ -122,6 +124,8 @@ impl Number for u32 {
     const LEAST: u32 = 1;
 
     ghost size_is = { refl };
+
+    ghost size_most = { Prim.search rules };
 
     ghost least_is = { refl };
 
