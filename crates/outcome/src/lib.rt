@@ -44,6 +44,7 @@ impl From<Refusal> for u32 {
     }
 }
 
+// For people to read, so no clause says what is written.
 impl fmt::Display for Refusal {
     fn fmt<W: fmt::Write>(&self, f: &mut fmt::Formatter<W>) -> fmt::Result {
         write!(f, "refused {}", self.number())

@@ -26,8 +26,9 @@ fresh_words w u e p =
     let rest : drop (length (proxy_words fresh_proxy)) w ≡ [] = drop_of_length-le w {i = length (proxy_words fresh_proxy)} (omega (arith, long, e)) in
     p ∙ rw (le-ltb (length w) proxy_size (omega (arith, e)), rest) (append-nil (proxy_words fresh_proxy))
 
-pub ran_fresh : (w : List ℕ) (kept : Kept) (after : Feeding) (out : List ℕ) → w ≡ proxy_words fresh_proxy → RanToEnd (lent w kept) after out → RanToEnd (lent (proxy_words fresh_proxy) kept) after out
-ran_fresh w kept after out e = subst (λ (v : List ℕ). RanToEnd (lent v kept) after out) e
+pub ran_fresh : (w : List ℕ) (rest : List ℕ → Feeding) (after : Feeding) (out : List ℕ) → w ≡ proxy_words fresh_proxy → RanToEnd (rest w) after out
+    → RanToEnd (rest (proxy_words fresh_proxy)) after out
+ran_fresh w rest after out e = subst (λ (v : List ℕ). RanToEnd (rest v) after out) e
 
 pub front_some : (input : List ℕ) (r s : Feeding) → FedFront input r s → FedSome r s
 front_some input r s a = (take a.0 input, a.1)

@@ -7,7 +7,7 @@ ghost use Rattle.outcome.specs.Lent.{over};
 ghost use Rattle.proxy_record.specs.State.{fresh_proxy};
 ghost use Rattle.proxy_record.specs.Words.{proxy_words};
 ghost use Rattle.proxy_record.specs.Rules.{GoodProxy};
-ghost use Rattle.replay_lines.specs.Feed.{lent, fed_through, said_through};
+ghost use Rattle.replay_lines.specs.Feed.{feeding, lent, fed_through, said_through};
 ghost use Rattle.replay.specs.Run.{FedFront, FedSome, RanToEnd};
 
 use line_text::hold::{Held, front};
@@ -95,10 +95,11 @@ impl Replay {
         write(rt, front(&self.out, wrote));
     }
 
-    // The same from a fresh proxy on.
+    // The same from a fresh proxy on, and with nothing held of a line.
     fn run(&mut self, reader: &mut impl Read, rt: &impl Print)
-        ensures { RanToEnd (lent (proxy_words fresh_proxy) self.old.kept) (lent self.new.words self.new.kept) self.new.out }
+        ensures { RanToEnd (feeding (proxy_words fresh_proxy) self.old.kept.list self.old.kept.held.bytes 0) (lent self.new.words self.new.kept) self.new.out }
     {
+        self.kept.held.count = 0;
         // These words are as many as a record has, so set-up takes them.
         let _ = set_up(&mut self.words);
         self.take_all(reader, rt);

@@ -87,7 +87,7 @@ fn tell_missing(words: &[u64], start: i64, end: i64, list: &mut [i64], out: &mut
     }
 }
 
-// A frame, done and told. The record, the list and the buffer are not one struct: `answer_line` is lent each by itself, and may ask no more.
+// A frame, done and told. The record, the list and the buffer are not one struct: it would hold three `&mut`, each with a clause for what it leaves.
 fn answer_frame(words: &mut [u64], frame: Frame, list: &mut [i64], out: &mut [u8]) -> usize
     requires { GoodProxy words.old × (missing_room ≤ length list.old) × (answer_most ≤ length out.old) }
     ensures line_answered { LineAnswered result words.new list.new out.old out.new (step_of (done frame) (proxy_of words.old) list.old) }
