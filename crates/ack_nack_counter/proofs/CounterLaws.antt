@@ -8,7 +8,7 @@ use mathlib.Core.Path.{◌≡◌, refl}
 use lib.IntN.{ℤ, pos, negsuc}
 use mir.Syntax.{w32}
 use mir.Val.{SFits, of_z, to_z}
-use mir.Facts.{to_z-of_z, to_z_pos, to_z-neg}
+use mir.Facts.{to_z_pos, to_z-neg}
 use borrow.Author.Tests.{eq-eqb, ne_eqb}
 use Rattle.outcome.proofs.Split.{split_eq}
 use Rattle.ack_nack_counter.specs.Counter.{next_count}

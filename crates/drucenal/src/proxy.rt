@@ -1,5 +1,5 @@
 // The writer proxy. words: the record, 775 of them from set-up on. A call that changes it reports a forced step by its old and
-// new base, both 0 where there was none.
+// new base, both 0 where there was none: as C has it, and so are the numbers for a status.
 ghost use Rattle.std.specs.Prelude.{◌≡◌, ◌≤◌, length, take};
 ghost use Rattle.outcome.specs.Outcome.{refusal};
 ghost use Rattle.proxy_record.specs.Rules.{GoodProxy};

@@ -1,4 +1,4 @@
-// Number sets of either kind: read, written, made, walked, measured. A set goes in and out by its parts.
+// Number sets of either kind: read, written, made, walked, measured. A set goes in and out by its parts, as C has it.
 ghost use Rattle.std.specs.Prelude.{◌≡◌, length};
 ghost use Rattle.number_set.specs.NumberSet.{members};
 ghost use Rattle.number_set.specs.SetWire.{read_set, write_set, set_bytes, measure_set};

@@ -1,5 +1,5 @@
 // One number, read and written.
-ghost use Rattle.std.specs.Prelude.{◌≡◌, length};
+ghost use Rattle.std.specs.Prelude.{length};
 ghost use Rattle.sequence_number.specs.Kind.{sequence_number, fragment_number};
 ghost use Rattle.sequence_number.specs.NumberWire.{read_number, write_number};
 ghost use Rattle.drucenal.specs.Exports.{order_of, Gives, Lends};

@@ -4,13 +4,12 @@ ghost use Rattle.std.specs.Prelude.{◌≡◌, ◌≤◌, length, take};
 ghost use Rattle.outcome.specs.Outcome.{refusal};
 ghost use Rattle.proxy_record.specs.Rules.{GoodProxy};
 ghost use Rattle.proxy_record.specs.Words.{proxy_of, proxy_size};
-ghost use Rattle.proxy_steps.specs.Steps.{report_said};
 ghost use Rattle.writer_proxy.specs.SetUp.{set_up_proxy};
 ghost use Rattle.writer_proxy.specs.Calls.{received, irrelevant, irrelevant_range, up_to};
 ghost use Rattle.writer_proxy.specs.Queries.{ignored, status_of, last_received};
 ghost use Rattle.writer_proxy.specs.Missing.{missing_listed};
 ghost use Rattle.ack_nack_counter.specs.Counter.{next_count};
-ghost use Rattle.drucenal.specs.ProxyExports.{old_shown, new_shown, Replies, ListsMissing, status_number, status_time, last_number, last_time};
+ghost use Rattle.drucenal.specs.ProxyExports.{Replies, ListsMissing, status_number, status_time, last_number, last_time};
 
 #[unsafe(no_mangle)]
 pub extern "C" fn drucenal_proxy_set_up(words: &mut [u64]) -> u32

@@ -1,14 +1,14 @@
 -- Document 01's table of refusals as theorems: one file to hold beside the paper. What a row is and what rows say of a call is `Row` of crate outcome.
 -- First the rows of each call in the paper's order and words, then `RefusalTable`: for each public call that can be refused, what follows from its
 -- promise, which stands there as the call's contract has it. The proof is `refusal_table` of `proofs/TableProof.antt`. The rows by number:
---    1  readNumberRows, readSetRows (twice), malformed
---    2  readSetRows, walkRows, writeSetRows, measureSetRows
+--    1  read_number_rows, read_set_rows (twice), malformed
+--    2  read_set_rows, walk_rows, write_set_rows, measure_set_rows
 --    3  shorter, of each call that writes to a lent list or sets a record up
---    4  notTaken (received, one irrelevant, fragment), missingRows, walkRows
---    5  rangeRows
---    6, 7, 8, 9, 10, 11, 12, 13  fragmentRows
---    14  assemblerSetUpRows
---    15  makeSetRows
+--    4  not_taken (received, one irrelevant, fragment), missing_rows, walk_rows
+--    5  range_rows
+--    6, 7, 8, 9, 10, 11, 12, 13  fragment_rows
+--    14  assembler_set_up_rows
+--    15  make_set_rows
 -- Assumes nothing.
 use Rattle.std.specs.Prelude.{ℕ, suc, ◌+◌, ◌-◌, ◌*◌, ◌<◌, ◌≤◌, ◌^◌, ◌≡◌, Bool, true, false, cond, ◌⊎◌, length, get_or, take, ℤ, pos, ◌≤ℤ◌, ◌<ℤ◌, Option, Result, Err}
 use mathlib.Core.List.{List, [], ◌∷◌, Memᴰ}

@@ -10,8 +10,7 @@ use Rattle.proxy_record.specs.State.{fresh_proxy}
 use Rattle.proxy_record.specs.Words.{proxy_size, proxy_words}
 use Rattle.proxy_record.proofs.RulesLaws.{ok_fresh, good_of}
 use Rattle.writer_proxy.specs.SetUp.{set_up_proxy}
-use Rattle.replay_lines.specs.Feed.{Feeding, lent, fed_through, said_through, lacking, FedWith}
-use Rattle.replay_lines.specs.declared.feed.Kept.{Kept}
+use Rattle.replay_lines.specs.Feed.{Feeding, fed_through, said_through, lacking, FedWith}
 use Rattle.replay_lines.proofs.FeedLaws.{fed_append}
 use Rattle.replay.specs.Run.{FedFront, FedSome, RanToEnd}
 

@@ -1,23 +1,19 @@
 -- Laws of `specs/Frame.antt`: one for each answer of the code. Assumes nothing.
 use Prim.Native.Nat.{ℕ}
 use mathlib.Core.Path.{◌≡◌}
-use mathlib.Core.Logic.{⊎_elim}
 use mathlib.Core.Bool.{true, false}
 use mathlib.Core.List.{List}
-use Rattle.std.specs.Prelude.{Result, Ok, Err}
+use Rattle.std.specs.Prelude.{Ok, Err}
 use lib.ListN.{length}
 use lib.IntN.{ℤ}
 use mir.Syntax.{w64}
 use mir.Val.{to_z}
 use borrow.Author.Tests.{eq-eqb, ne_eqb}
 use Rattle.outcome.specs.Outcome.{refused}
-use Rattle.outcome.proofs.Split.{split, split_eq}
 use Rattle.line_text.specs.Hex.{all_hex, value_at}
 use Rattle.outcome.specs.Refusal.{said}
-use Rattle.outcome.specs.declared.Refusal.{Refusal}
 use Rattle.outcome.specs.declared.Refusal.TheVariants.{EndsEarly}
 use Rattle.replay_lines.specs.Frame.{frame_of, parsed}
-use Rattle.replay_lines.specs.declared.frame.Frame.{Frame}
 use Rattle.replay_lines.specs.declared.frame.Frame.TheVariants.{Received, Range, Missing}
 
 pub frame_received : (kind a b : ℕ) (n : ℤ) → kind ≡ 1 → n ≡ to_z w64 a → Ok (Received n b) ≡ frame_of kind a b

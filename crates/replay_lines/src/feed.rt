@@ -1,5 +1,5 @@
 // Input in pieces of any size, cut into lines: no more is held of a line than shows that it is too long.
-ghost use Rattle.std.specs.Prelude.{◌≡◌, ◌∷◌, [], ◌≤◌, length};
+ghost use Rattle.std.specs.Prelude.{◌∷◌, [], ◌≤◌, length};
 ghost use Rattle.proxy_record.specs.Rules.{GoodProxy};
 ghost use Rattle.replay_lines.specs.Answer.{answer_most};
 ghost use Rattle.replay_lines.specs.Feed.{lent, lacking, FedWith, PieceFed};

@@ -1,27 +1,19 @@
--- Laws of `specs/Kind.antt`: what reading and writing a number come to, and that a number of either kind is read back. Assumes nothing.
-use Prim.Native.Nat.{ℕ, suc, ◌+◌, ◌*◌, ◌-◌, ◌/◌, ◌%◌, ◌^◌, ◌<◌, ◌≤◌}
-use mathlib.Core.Path.{◌≡◌, refl, ap, ◌∙◌, sym}
+-- Laws of `specs/Kind.antt`: the two words of a sequence number, and that a number of either kind is read back. Assumes nothing.
+use Prim.Native.Nat.{ℕ, suc, ◌+◌, ◌*◌, ◌-◌, ◌/◌, ◌%◌, ◌^◌, ◌<◌}
+use mathlib.Core.Path.{◌≡◌, ap, ◌∙◌, sym}
 use mathlib.Core.List.{List, ◌++◌, append_assoc}
-use mathlib.Core.Logic.{◌⊎◌, inl, inr, ⊎_elim}
-use mathlib.Core.Bool.{true, false}
+use mathlib.Core.Logic.{◌⊎◌, ⊎_elim}
 use native.Mathlib.Omega.{arith}
-use native.Mathlib.Decide.{dec_lt}
-use lib.ListN.{length, length-append}
-use lib.Seq.{sets}
-use lib.Dec.{ltb}
+use lib.ListN.{length}
 use lib.IntN.{ℤ, pos, negsuc, ◌+ℤ◌, ◌*ℤ◌}
-use lib.Signed.{lt_z}
-use Rattle.sequence_number.specs.Number.{nat_of}
 use mir.Syntax.{w32, w64}
 use mir.Val.{Fits, SFits, of_z, to_z}
 use mir.Facts.{to_z-of_z, to_z_pos, to_z-neg, Fits-of_z}
-use borrow.Author.Tests.{lt-ltb, le-ltb, ltb-true, ltb-false}
+use borrow.Author.Tests.{lt-ltb}
 use Rattle.sequence_number.specs.Word.{word_at, word_bytes}
 use Rattle.sequence_number.specs.Lawful.{ReadsBack}
-use Rattle.sequence_number.specs.Kind.{Kind, sequence_number, fragment_number, sequence_at, sequence_bytes}
-use Rattle.sequence_number.specs.declared.ByteOrder.{ByteOrder}
+use Rattle.sequence_number.specs.Kind.{sequence_number, fragment_number}
 use Rattle.outcome.proofs.Split.{split_lt}
-use Rattle.outcome.proofs.LentLaws.{sets_sets}
 use Rattle.sequence_number.specs.Keeps.{length_bytes}
 use Rattle.sequence_number.proofs.WordLaws.{word_bytes_lem, word_append}
 

@@ -4,13 +4,12 @@ use native.Mathlib.Omega.{arith}
 use mathlib.Core.Logic.{◌⊎◌, inl, inr, ⊎_elim, ◌↔◌}
 use mathlib.Core.Path.{◌≡◌, refl, ap}
 use mathlib.Core.Bool.{true, false}
-use lib.Dec.{T}
-use lib.IntN.{ℤ, pos, negsuc, nat_abs}
-use lib.Signed.{lt_z, le_z, non_neg}
+use lib.IntN.{ℤ, pos, negsuc}
+use lib.Signed.{lt_z, le_z}
 use mir.Syntax.{w64}
-use mir.Val.{SFits, Fits, of_z, to_z}
+use mir.Val.{SFits, of_z, to_z}
 use mir.Facts.{to_z-of_z}
-use borrow.Author.Tests.{lt-ltb, le-ltb, ltb-true, ltb-false, le-leb, leb-true}
+use borrow.Author.Tests.{lt-ltb, le-ltb, ltb-true, le-leb, leb-true}
 use Rattle.std.specs.Prelude.{Option, Some, None, unwrap_or, option_map}
 use Rattle.sequence_number.specs.Number.{top, is_number, nat_of, number_of, taken}
 use Rattle.outcome.proofs.Split.{split, split_lt, clash}

@@ -1,6 +1,6 @@
 -- Laws of `specs/Word.antt`: a word that was written is read back. Assumes nothing.
 use Prim.Native.Nat.{ℕ, ◌+◌, ◌^◌, ◌<◌}
-use mathlib.Core.Path.{◌≡◌, refl, ap, ◌∙◌}
+use mathlib.Core.Path.{◌≡◌, ap, ◌∙◌}
 use mathlib.Core.List.{List, ◌++◌}
 use native.Mathlib.Omega.{arith}
 use lib.ListN.{length, get_or}

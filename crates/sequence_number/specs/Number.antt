@@ -19,6 +19,6 @@ nat_of (negsuc n) = 0
 abbrev pub number_of : ℤ → ℕ
 number_of n = cond (is_number n) (nat_of n) 0
 
--- the same, with nothing for one that it refuses
+-- the same, with nothing for one that it refuses: what `number_of` of src/ answers
 abbrev pub taken : ℤ → Option ℕ
 taken n = cond (is_number n) (Some (nat_of n)) None

@@ -1,4 +1,4 @@
-// Words of four bytes, in either byte order.
+// Words of four bytes, in either byte order. Bytes and a place go together here and above, as the definitions have them: `&s[at..]` would be cut by each caller.
 ghost use Rattle.std.specs.Prelude.{◌≡◌, ◌+◌, ◌≤◌, length};
 ghost use Rattle.std.proofs.lemmas.List.Edits.{sets};
 ghost use Rattle.sequence_number.specs.Word.{word_at, word_bytes};
