@@ -17,11 +17,9 @@ pub const TIME: usize = 2; // the time that its last fragment stored
 
 pub const MARKS: usize = 3; // where its marks begin
 
-pub const MARK_WORDS: usize = 4;
-
 pub const PLACES: usize = 129; // one more than may stay in assembly
 
 pub const ASSEMBLER_WORDS: usize = 906; // all words
 
 // The words of one place.
-pub type Row = [u64; ROW];
+pub type PlaceRow = [u64; ROW];

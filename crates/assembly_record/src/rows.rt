@@ -22,14 +22,14 @@ fn open_row(row: &mut [u64], number: u64, size: u64)
 
 // What a run stores in its place: the number, the time, and the marks of `count` fragments from `first`, counted from 0.
 #[derive(Clone, Copy)]
-pub struct Run {
+pub struct RunMarks {
     pub number: u64,
     pub time: u64,
     pub first: usize,
     pub count: usize,
 }
 
-fn run_row(row: &mut [u64], run: Run)
+fn run_row(row: &mut [u64], run: RunMarks)
     requires { (length row.old ≡ row_size) × (run.first + run.count ≤ most_fragments) }
     ensures { place_of row.new ≡ place_ran (place_of row.old) run.number run.time run.first run.count }
 {
@@ -48,7 +48,7 @@ pub fn open_at(t: &mut [u64], seat: usize, number: u64, size: u64)
 }
 
 // Place `seat` takes the time and the marks of a run.
-pub fn run_at(t: &mut [u64], seat: usize, run: Run)
+pub fn run_at(t: &mut [u64], seat: usize, run: RunMarks)
     requires { (length t.old ≡ assembler_size) × ((seat < place_count) × (run.first + run.count ≤ most_fragments)) }
     ensures { Became t.old (set (places_of t.old) seat (place_ran (place_at (places_of t.old) seat) run.number run.time run.first run.count)) t.new }
 {

@@ -4,10 +4,10 @@ ghost use Rattle.assembly_record.specs.Sizes.{place_count, assembler_size};
 ghost use Rattle.assembly_record.specs.Table.{found_place, highest_of, lowest_of, victim};
 ghost use Rattle.assembly_record.specs.Words.{place_of, places_of};
 
-use crate::layout::{MODE, NUMBER, ROW, Row, TABLE};
+use crate::layout::{MODE, NUMBER, ROW, PlaceRow, TABLE};
 
 // The rows of the places.
-pub fn rows(t: &[u64]) -> &[Row]
+pub fn rows(t: &[u64]) -> &[PlaceRow]
     requires { length t.now ≡ assembler_size }
     ensures long { length result.now ≡ place_count }
     ensures places { map place_of result.now ≡ places_of t.now }

@@ -11,7 +11,7 @@ ghost use Rattle.fragment_assembler.specs.Promise.{TakesFragment};
 use crate::fragment::{Answer, DataFrag};
 use assembly_record::area::{clear_at, copy_at};
 use assembly_record::layout::{FRAGMENT_SIZE, NUMBER, PLACE_SIZE, SIZE};
-use assembly_record::rows::{Run, open_at, run_at, whole_at, wipe_at};
+use assembly_record::rows::{RunMarks, open_at, run_at, whole_at, wipe_at};
 use assembly_record::table::{pick_victim, rows, seek};
 
 // Where 129 are in assembly one number goes.
@@ -47,6 +47,7 @@ fn close(t: &mut [u64], seat: usize, opened: bool) -> Answer
 }
 
 // The run on the place that was found or opened: bytes, marks and time, and the end of the call.
+// time, number and frag go on as `new_datafrag` takes them: a struct of the three would only be built for this and taken apart again.
 fn insert_frags(
     t: &mut [u64],
     area: &mut [u8],
@@ -70,7 +71,7 @@ fn insert_frags(
     run_at(
         t,
         seat,
-        Run {
+        RunMarks {
             number,
             time,
             first,

@@ -14,7 +14,7 @@ fn shown_from(t: &[u64], long: usize, place: usize, length: usize) -> Option<usi
 {
     let at = place.checked_mul(t[PLACE_SIZE] as usize)?;
     let end = at.checked_add(length)?;
-    if end <= long { Some(at) } else { None }
+    (end <= long).then_some(at)
 }
 
 // A returned sample, as a part of the lent area; the empty part where it would pass the area's end.

@@ -8,8 +8,8 @@ pub record Entry : Type 0 where
   pub mark : Mark
 
 -- a number with its mark
-abbrev pub marked : ℕ → Mark → Entry
-marked n m = record { number = n; mark = m }
+abbrev pub marked_entry : ℕ → Mark → Entry
+marked_entry n m = record { number = n; mark = m }
 
 -- the numbers are lo or more, below hi, and strictly rising
 abbrev pub RisingEntries : ℕ → ℕ → List Entry → Type 0

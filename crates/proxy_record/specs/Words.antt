@@ -1,6 +1,6 @@
 -- A state as 775 words, and back: base, count, last, last time, then three columns of 257 words (numbers, kinds, times). Assumes nothing.
 use Rattle.std.specs.Prelude.{ℕ, zero, suc, ◌+◌, ◌-◌, List, [], ◌∷◌, ◌++◌, map, length, get_or, replicate}
-use Rattle.proxy_record.specs.Entries.{Entry, marked}
+use Rattle.proxy_record.specs.Entries.{Entry, marked_entry}
 use Rattle.proxy_record.specs.declared.Mark.{Mark}
 use Rattle.proxy_record.specs.declared.Mark.TheVariants.{NotAvailable, Received}
 use Rattle.proxy_record.specs.State.{Proxy}
@@ -36,7 +36,7 @@ mark_of (suc k) t = Received t
 
 -- an entry by its three words
 abbrev pub entry_of : ℕ → ℕ → ℕ → Entry
-entry_of n k t = marked n (mark_of k t)
+entry_of n k t = marked_entry n (mark_of k t)
 
 abbrev pub number_in : Entry → ℕ
 number_in e = e.number

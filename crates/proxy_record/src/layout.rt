@@ -17,6 +17,6 @@ pub const PROXY_WORDS: usize = 775; // all words
 
 pub const CAP: usize = 256; // so many are tracked after a call at most
 
-pub const NOT_AVAILABLE: u64 = 0; // the two kinds
+pub const NOT_AVAILABLE: u64 = 0; // the two kinds, as numbers: the record's words, as C keeps them
 
 pub const RECEIVED: u64 = 1;

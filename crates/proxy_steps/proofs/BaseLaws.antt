@@ -14,7 +14,7 @@ use Rattle.proxy_record.specs.State.{with_tracked, cap}
 use Rattle.proxy_record.specs.Rules.{ProxyRules, GoodProxyUpTo, GoodProxy}
 use Rattle.proxy_record.specs.Words.{column_size, number_in, proxy_words, proxy_of, tracked_in}
 use Rattle.proxy_record.specs.Rows.{blank_entry, rank}
-use Rattle.proxy_record.proofs.EntriesLaws.{rising_top, rising_from, from_all, from_drop, rank_within}
+use Rattle.proxy_record.proofs.EntriesLaws.{rising_from, from_all, from_drop, rank_within}
 use Rattle.proxy_record.proofs.RunLaws.{run_within, run_bound, from_run}
 use Rattle.proxy_record.proofs.PartLaws.{last_at, base_laid, last_laid, time_laid}
 use Rattle.proxy_record.proofs.WordsLaws.{kept_of, good_kept, of_laid, state_of, good_is}

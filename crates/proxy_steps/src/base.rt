@@ -2,7 +2,7 @@
 ghost use Rattle.std.specs.Prelude.{◌≡◌, ◌<◌, ◌≤◌, Ok};
 ghost use Rattle.sequence_number.specs.Number.{top};
 ghost use Rattle.proxy_record.specs.Rules.{GoodProxyUpTo, GoodProxy};
-ghost use Rattle.proxy_record.specs.Entries.{marked};
+ghost use Rattle.proxy_record.specs.Entries.{marked_entry};
 ghost use Rattle.proxy_record.specs.Words.{column_size, proxy_words, proxy_of};
 ghost use Rattle.proxy_steps.specs.Steps.{noted, put, move_on, discard, cut_to, followed, ended_proxy, ProxyAnswers};
 
@@ -50,7 +50,7 @@ pub(crate) fn enforce_change_map_cap(t: &mut [u64]) -> Option<Forced>
 // A number at the base or above it is put, and the cap is last. The base's own number is not put: the base steps over it.
 pub fn track(t: &mut [u64], n: u64, mark: Mark) -> Option<Forced>
     requires { GoodProxy t.old × ((proxy_of t.old).base ≤ n) × (n < top) }
-    ensures { ProxyAnswers (Ok result) t.new (ended_proxy (proxy_of t.old) (followed n (put (marked n mark) (proxy_of t.old)))) }
+    ensures { ProxyAnswers (Ok result) t.new (ended_proxy (proxy_of t.old) (followed n (put (marked_entry n mark) (proxy_of t.old)))) }
 {
     if n == t[BASE] {
         advance_ack_base(t, n + 1);

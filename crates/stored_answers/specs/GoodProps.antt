@@ -1,4 +1,4 @@
--- The rules of the two records have at most one proof, which the ghost fields of `Proxy` and `Assembler` ask for (a ghost field reads only specs/). Assumes nothing.
+-- The rules of the two records have at most one proof, which the ghost fields of `ProxyCalls` and `AssemblerCalls` ask for (a ghost field reads only specs/). Assumes nothing.
 use Rattle.std.proofs.Common.{◌≡◌, ℕ, suc, List, [], ◌∷◌, ap, arith}
 use Rattle.std.proofs.Math.Logic.{◌⊎◌, inl, inr}
 use Rattle.std.specs.Coded.{Unit-prop}

@@ -18,6 +18,7 @@ use outcome::Refusal;
 const PAYLOAD: usize = 7;
 
 // Set-up, answered with the digest of its words: f mode p, mode 1 reliable and 0 best effort. Returned: whether it was done.
+// No method: it serves words of any kind, and the record that they become is by the rules only if they were.
 fn start(rt: &impl Print, t: &mut [u64], f: u16, mode: bool, p: u32) -> bool
     ensures { GoodAssembler t.old → GoodAssembler t.new }
 {
@@ -72,6 +73,7 @@ impl Found for Answer {
 }
 
 // What became of a fragment, how many are in assembly, the digests of record and area, and what was returned, as the view shows it.
+// No method: the area shown is the part that was lent, which the struct does not know.
 fn told_fragment(rt: &impl Print, t: &[u64], area: &[u8], reply: Result<Answer, Refusal>)
     requires { GoodAssembler t.now }
 {
@@ -81,20 +83,20 @@ fn told_fragment(rt: &impl Print, t: &[u64], area: &[u8], reply: Result<Answer, 
     next(rt, bytes_digest(area));
     let shown = match reply {
         Ok(Answer::Returned { place, length, .. }) => view(t, area, place, length as usize),
-        _ => &[],
+        Ok(Answer::Kept | Answer::Dropped(_)) | Err(_) => &[],
     };
     rest(rt, shown);
 }
 
 // An assembler by the rules, and its area.
 #[derive(Drop)]
-pub(crate) struct Assembler<'a> {
+pub(crate) struct AssemblerCalls<'a> {
     pub(crate) t: &'a mut [u64],
     pub(crate) area: &'a mut [u8],
     ghost good: { GoodAssembler t.now } by { GoodAssembler-prop t.now },
 }
 
-impl Assembler<'_> {
+impl AssemblerCalls<'_> {
     // f mode p; nothing changes after a refusal.
     fn set_up(&mut self, rt: &impl Print, c: Args) {
         if start(rt, self.t, c.at(0), c.at(1), c.at(2)) {
@@ -156,23 +158,17 @@ impl Assembler<'_> {
         rest(rt, lent);
     }
 
-    // The calls that leave the record as it is. In assembly: number, or nothing for how many.
-    fn ask(&self, rt: &impl Print, code: AssemblerCode, c: Args) {
-        match code {
-            AssemblerCode::View => self.view(rt, c),
-            AssemblerCode::Missing => self.missing(rt, c),
-            AssemblerCode::IsInAssembly => line(rt, is_partially_received(self.t, c.at(0))),
-            _ => line(rt, in_assembly(self.t)),
-        }
-    }
-
+    // In assembly: number, or nothing for how many.
     pub(crate) fn call(&mut self, rt: &impl Print, code: AssemblerCode, c: Args) {
         match code {
             AssemblerCode::SetUp => self.set_up(rt, c),
             AssemblerCode::SetUpOn => start_fresh(rt, c),
             AssemblerCode::Fragment => self.fragment(rt, c),
             AssemblerCode::Clean => self.clean(rt, c),
-            _ => self.ask(rt, code, c),
+            AssemblerCode::View => self.view(rt, c),
+            AssemblerCode::Missing => self.missing(rt, c),
+            AssemblerCode::IsInAssembly => line(rt, is_partially_received(self.t, c.at(0))),
+            AssemblerCode::InAssembly => line(rt, in_assembly(self.t)),
         }
     }
 }

@@ -1,7 +1,8 @@
 // A line as words: lower-case hexadecimal with one space between them.
 ghost use Rattle.std.specs.Prelude.{◌<◌, ◌≤◌, length, IfSome};
 
-// A line read: how many words it has, nothing where it has a byte that is no digit or too many words; and the input after it.
+// A line read: how many words it has, nothing where it has too many words or the input ends before it does; and the input after what was read.
+// It ends at the first byte that is neither a digit nor a space.
 #[derive(Clone, Copy)]
 pub(crate) struct Line<'a> {
     pub(crate) count: Option<usize>,

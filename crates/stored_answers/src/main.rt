@@ -3,7 +3,8 @@
 //
 // A stored call is a line of words: lower-case hexadecimal with one space between them, first the call's code (codes.rt), then what the
 // call takes, in the order that stands beside the function that makes it. A signed number is its two's complement bits, of 64; a word is
-// cut to the type that is taken (word.rt). `room` is how many entries are lent, each 90 before the call; `area` is how many bytes of the
+// cut to the type that is taken, save that past an i32 it is 0, that a yes or no is yes at 1 only, and that a byte order is big at 0 only
+// (word.rt). `room` is how many entries are lent, each 90 before the call; `area` is how many bytes of the
 // area are lent; a set is its base, its count and eight words; `..` is a list, to the end of the line.
 // An answer begins with the refusal number, or 0, and ends with what was lent, as the call left it; a record or an area is shown by its
 // digest (digest.rt). A line that is no call is answered by `?`. The table of all calls and their answers is in docs/.
@@ -25,15 +26,15 @@ ghost use Rattle.std.specs.Prelude.{◌≡◌, ◌≤◌, length};
 ghost use Rattle.proxy_record.specs.Words.{proxy_size};
 
 use crate::args::Args;
-use crate::assembler::Assembler;
+use crate::assembler::AssemblerCalls;
 use crate::codes::{Code, code_of};
 use crate::line::read_line;
 use crate::out::no_call;
-use crate::proxy::Proxy;
+use crate::proxy::ProxyCalls;
 use std::io::Read;
 
 // A line's call, made and answered.
-fn answer(rt: &impl Print, proxy: &mut Proxy, assembler: &mut Assembler, line: &[u64]) {
+fn answer(rt: &impl Print, proxy: &mut ProxyCalls, assembler: &mut AssemblerCalls, line: &[u64]) {
     let Some((code, words)) = line.split_first() else {
         return no_call(rt);
     };
@@ -50,8 +51,8 @@ fn answer(rt: &impl Print, proxy: &mut Proxy, assembler: &mut Assembler, line: &
     }
 }
 
-// All lines.
-fn answer_lines(rt: &impl Print, proxy: &mut Proxy, assembler: &mut Assembler, input: &[u8]) {
+// All lines. A `while`: each line says where the next begins and lends the words read, and an `Iterator` may lend none of its own.
+fn answer_lines(rt: &impl Print, proxy: &mut ProxyCalls, assembler: &mut AssemblerCalls, input: &[u8]) {
     let mut words = [0u64; 1200];
     let mut rest = input;
     while !rest.is_empty() {
@@ -72,8 +73,8 @@ fn run(rt: &impl Print, proxy: &mut [u64], assembler: &mut [u64], area: &mut [u8
     let Ok(()) = fragment_assembler::set_up::set_up(assembler, 1, true, 1) else {
         return;
     };
-    let mut proxy = Proxy { t: proxy };
-    let mut assembler = Assembler { t: assembler, area };
+    let mut proxy = ProxyCalls { t: proxy };
+    let mut assembler = AssemblerCalls { t: assembler, area };
     answer_lines(rt, &mut proxy, &mut assembler, input);
 }
 
@@ -83,6 +84,7 @@ fn with_records(rt: &impl Print, area: &mut [u8; 264200], input: &[u8]) {
 }
 
 // Reads until all that is lent holds bytes or the input ends: how many were read. A read that fails counts as the end.
+// What is read is summed by hand: `read_to_end` fills a Vec, and there is no heap; `read_exact` does not say how much came.
 fn read_full(reader: &mut impl Read, input: &mut [u8]) -> usize
     ensures { result ≤ length input.new }
 {

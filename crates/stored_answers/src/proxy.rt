@@ -18,6 +18,7 @@ use writer_proxy::received::received_changes_add;
 use writer_proxy::set_up::set_up;
 
 // What became of set-up, and the digest of its words.
+// No method: it serves words of any kind, and the record that they become is by the rules only if they were.
 fn start(rt: &impl Print, t: &mut [u64])
     ensures { GoodProxy t.old → GoodProxy t.new }
 {
@@ -68,12 +69,12 @@ fn told_last(rt: &impl Print, last: Option<(u64, u64)>) {
 
 // A proxy by the rules.
 #[derive(Drop)]
-pub(crate) struct Proxy<'a> {
+pub(crate) struct ProxyCalls<'a> {
     pub(crate) t: &'a mut [u64],
     ghost good: { GoodProxy t.now } by { GoodProxy-prop t.now },
 }
 
-impl Proxy<'_> {
+impl ProxyCalls<'_> {
     // Missing numbers: start end room.
     fn missing(&self, rt: &impl Print, c: Args) {
         let mut lent = [90i64; 300];
@@ -92,18 +93,7 @@ impl Proxy<'_> {
         end(rt);
     }
 
-    // The calls that leave the record as it is. Ignored and status: number. Last and base: nothing.
-    fn ask(&self, rt: &impl Print, code: ProxyCode, c: Args) {
-        match code {
-            ProxyCode::IsIgnored => line(rt, should_ignore_change(self.t, c.at(0))),
-            ProxyCode::Status => told_status(rt, change_status(self.t, c.at(0))),
-            ProxyCode::Last => told_last(rt, last_received(self.t)),
-            ProxyCode::Missing => self.missing(rt, c),
-            _ => line(rt, all_ackable_before(self.t)),
-        }
-    }
-
-    // Received: number time. One irrelevant: number. Range: from until. Up to: smallest.
+    // Received: number time. One irrelevant, ignored and status: number. Range: from until. Up to: smallest. Last and base: nothing.
     pub(crate) fn call(&mut self, rt: &impl Print, code: ProxyCode, c: Args) {
         let changed = match code {
             ProxyCode::SetUp => return start(rt, self.t),
@@ -112,7 +102,11 @@ impl Proxy<'_> {
             ProxyCode::Irrelevant => set_irrelevant_change(self.t, c.at(0)),
             ProxyCode::IrrelevantRange => irrelevant_changes_range(self.t, c.at(0), c.at(1)),
             ProxyCode::IrrelevantUpTo => irrelevant_changes_up_to(self.t, c.at(0)),
-            _ => return self.ask(rt, code, c),
+            ProxyCode::IsIgnored => return line(rt, should_ignore_change(self.t, c.at(0))),
+            ProxyCode::Status => return told_status(rt, change_status(self.t, c.at(0))),
+            ProxyCode::Last => return told_last(rt, last_received(self.t)),
+            ProxyCode::Base => return line(rt, all_ackable_before(self.t)),
+            ProxyCode::Missing => return self.missing(rt, c),
         };
         self.told_change(rt, changed);
     }

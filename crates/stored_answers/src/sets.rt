@@ -5,7 +5,6 @@ use crate::out::{end, first, next, no_call, rest, told};
 use crate::word::Word;
 use number_set::set::{NumberSet, Taken};
 use outcome::Refusal;
-use sequence_number::ByteOrder;
 use sequence_number::kind::Number;
 use sequence_number::wire::{read_number, write_number};
 
@@ -48,34 +47,39 @@ fn nothing<N: Word>() -> Taken<N> {
     Taken { set, taken: 0 }
 }
 
-// A number written: order room number. A set written: order room set.
-fn write<N: Number + Word>(rt: &impl Print, code: SetCode, c: Args) {
-    let mut lent = [90u8; 64];
+// A number written: order room number.
+fn write_one<N: Number + Word>(rt: &impl Print, c: Args, lent: &mut [u8]) {
     let Some(lent) = lent.get_mut(..c.at(1)) else {
         return no_call(rt);
     };
-    let o: ByteOrder = c.at(0);
-    let wrote = match code {
-        SetCode::WriteNumber => write_number::<N>(o, c.at(2), lent),
-        _ => set_at::<N>(c, SET_AFTER_ROOM).write_to(o, lent),
-    };
-    told(rt, &wrote);
+    told(rt, &write_number::<N>(c.at(0), c.at(2), lent));
     rest(rt, lent);
 }
 
-// A number or a set read: order byte ..
-fn read<N: Number + Word>(rt: &impl Print, code: SetCode, c: Args) {
-    let mut lent = [90u8; 64];
-    let Some(bytes) = c.list(LIST, &mut lent) else {
+// A set written: order room set.
+fn write_set<N: Number + Word>(rt: &impl Print, c: Args, lent: &mut [u8]) {
+    let Some(lent) = lent.get_mut(..c.at(1)) else {
         return no_call(rt);
     };
-    match code {
-        SetCode::ReadNumber => {
-            told(rt, &read_number::<N>(c.at(0), bytes));
-            end(rt);
-        }
-        _ => told_set(rt, NumberSet::<N>::read_from(c.at(0), bytes)),
-    }
+    told(rt, &set_at::<N>(c, SET_AFTER_ROOM).write_to(c.at(0), lent));
+    rest(rt, lent);
+}
+
+// A number read: order byte ..
+fn read_one<N: Number + Word>(rt: &impl Print, c: Args, lent: &mut [u8]) {
+    let Some(bytes) = c.list(LIST, lent) else {
+        return no_call(rt);
+    };
+    told(rt, &read_number::<N>(c.at(0), bytes));
+    end(rt);
+}
+
+// A set read: order byte ..
+fn read_set<N: Number + Word>(rt: &impl Print, c: Args, lent: &mut [u8]) {
+    let Some(bytes) = c.list(LIST, lent) else {
+        return no_call(rt);
+    };
+    told_set(rt, NumberSet::<N>::read_from(c.at(0), bytes));
 }
 
 // A set walked: way room set, way 1 rising and 0 falling.
@@ -102,11 +106,13 @@ fn measure<N: Number + Word>(rt: &impl Print, c: Args) {
     end(rt);
 }
 
-// The numbers lent are 90 each to list, and any to make a set of.
+// The numbers lent are 90 each to list, and any to make a set of; the bytes are 90 each to write, and any to read from.
 pub(crate) fn call<N: Number + Word>(rt: &impl Print, code: SetCode, c: Args, lent: &mut [N]) {
     match code {
-        SetCode::WriteNumber | SetCode::WriteSet => write::<N>(rt, code, c),
-        SetCode::ReadNumber | SetCode::ReadSet => read::<N>(rt, code, c),
+        SetCode::WriteNumber => write_one::<N>(rt, c, &mut [90u8; 64]),
+        SetCode::WriteSet => write_set::<N>(rt, c, &mut [90u8; 64]),
+        SetCode::ReadNumber => read_one::<N>(rt, c, &mut [90u8; 64]),
+        SetCode::ReadSet => read_set::<N>(rt, c, &mut [90u8; 64]),
         SetCode::WalkSet => walk(rt, c, lent),
         SetCode::MeasureSet => measure::<N>(rt, c),
         SetCode::MakeSet => make(rt, c, lent),

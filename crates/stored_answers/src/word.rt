@@ -3,7 +3,7 @@ use sequence_number::ByteOrder;
 
 // A value by its word.
 pub(crate) trait Word: Copy {
-    // The value of a word, which is cut to the type.
+    // The value of a word: its low bits, save that i32, bool and ByteOrder have a rule of their own, which stands beside them.
     fn of(word: u64) -> Self;
 
     // The word of the value: a signed number's two's complement bits.
@@ -70,7 +70,7 @@ impl Word for i64 {
     }
 }
 
-// A word past the type counts as 0.
+// A word past the type is 0, not cut.
 impl Word for i32 {
     fn of(word: u64) -> i32 {
         i32::try_from(word.cast_signed()).unwrap_or(0)
@@ -81,7 +81,7 @@ impl Word for i32 {
     }
 }
 
-// Yes is 1: reliable, or rising.
+// Yes is 1, reliable or rising; any other word is no.
 impl Word for bool {
     fn of(word: u64) -> bool {
         word == 1
@@ -92,7 +92,7 @@ impl Word for bool {
     }
 }
 
-// 0 big, 1 little.
+// 0 is big, 1 little; any other word is little.
 impl Word for ByteOrder {
     fn of(word: u64) -> ByteOrder {
         match word {

@@ -1,4 +1,4 @@
--- Laws of `specs/Queries.antt`, and what `status_of` finds at a number's place. Assumes nothing.
+-- Laws of `specs/Queries.antt`, and what `find` finds at a number's place. Assumes nothing.
 use Prim.Native.Nat.{ℕ, ◌<◌, ◌≤◌}
 use native.Mathlib.Omega.{arith}
 use mathlib.Core.Logic.{◌⊎◌, inl, inr, ⊎_elim}

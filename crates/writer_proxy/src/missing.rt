@@ -27,6 +27,7 @@ fn list_missing(t: &[u64], lo: u64, hi: u64, out: &mut [i64])
     requires { GoodProxy t.now × (lo ≤ hi) × (hi ≤ top) }
     ensures { out.new ≡ over (take (length out.old) (map pos (untracked_from lo (hi - lo) (tracked_in t.now)))) out.old }
 {
+    // i and w are counted by hand: each moves on at its own numbers only, and of a list written through a `zip` the library says nothing.
     let len = t[COUNT] as usize;
     let mut i = rows::place(t, lo);
     let mut w = 0;

@@ -1,5 +1,4 @@
 -- `known_values::open_all` meets its contract: each call keeps the rules that the next one asks for. Assumes nothing.
-use Rattle.std.proofs.Common.{◌≡◌, length}
 use Rattle.assembly_record.specs.Rules.{GoodAssembler}
 use Rattle.known_values.proofs.open_all.Given as goal
 
