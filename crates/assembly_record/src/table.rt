@@ -4,7 +4,7 @@ ghost use Rattle.assembly_record.specs.Sizes.{place_count, assembler_size};
 ghost use Rattle.assembly_record.specs.Table.{found_place, highest_of, lowest_of, victim};
 ghost use Rattle.assembly_record.specs.Words.{place_of, places_of};
 
-use crate::layout::{MODE, NUMBER, ROW, PlaceRow, TABLE};
+use crate::layout::{MODE, NUMBER, PlaceRow, ROW, TABLE};
 
 // The rows of the places.
 pub fn rows(t: &[u64]) -> &[PlaceRow]
