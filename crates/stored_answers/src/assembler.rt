@@ -158,7 +158,16 @@ impl AssemblerCalls<'_> {
         rest(rt, lent);
     }
 
-    // In assembly: number, or nothing for how many.
+    // In assembly: number
+    fn is_in(&self, rt: &impl Print, c: Args) {
+        line(rt, is_partially_received(self.t, c.at(0)));
+    }
+
+    // How many are in assembly
+    fn how_many(&self, rt: &impl Print) {
+        line(rt, in_assembly(self.t));
+    }
+
     pub(crate) fn call(&mut self, rt: &impl Print, code: AssemblerCode, c: Args) {
         match code {
             AssemblerCode::SetUp => self.set_up(rt, c),
@@ -167,8 +176,8 @@ impl AssemblerCalls<'_> {
             AssemblerCode::Clean => self.clean(rt, c),
             AssemblerCode::View => self.view(rt, c),
             AssemblerCode::Missing => self.missing(rt, c),
-            AssemblerCode::IsInAssembly => line(rt, is_partially_received(self.t, c.at(0))),
-            AssemblerCode::InAssembly => line(rt, in_assembly(self.t)),
+            AssemblerCode::IsInAssembly => self.is_in(rt, c),
+            AssemblerCode::InAssembly => self.how_many(rt),
         }
     }
 }

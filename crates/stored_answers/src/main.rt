@@ -52,7 +52,12 @@ fn answer(rt: &impl Print, proxy: &mut ProxyCalls, assembler: &mut AssemblerCall
 }
 
 // All lines. A `while`: each line says where the next begins and lends the words read, and an `Iterator` may lend none of its own.
-fn answer_lines(rt: &impl Print, proxy: &mut ProxyCalls, assembler: &mut AssemblerCalls, input: &[u8]) {
+fn answer_lines(
+    rt: &impl Print,
+    proxy: &mut ProxyCalls,
+    assembler: &mut AssemblerCalls,
+    input: &[u8],
+) {
     let mut words = [0u64; 1200];
     let mut rest = input;
     while !rest.is_empty() {

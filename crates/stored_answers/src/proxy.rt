@@ -93,7 +93,25 @@ impl ProxyCalls<'_> {
         end(rt);
     }
 
-    // Received: number time. One irrelevant, ignored and status: number. Range: from until. Up to: smallest. Last and base: nothing.
+    // Ignored: number.
+    fn ignored(&self, rt: &impl Print, c: Args) {
+        line(rt, should_ignore_change(self.t, c.at(0)));
+    }
+
+    // Status: number.
+    fn status(&self, rt: &impl Print, c: Args) {
+        told_status(rt, change_status(self.t, c.at(0)));
+    }
+
+    fn last(&self, rt: &impl Print) {
+        told_last(rt, last_received(self.t));
+    }
+
+    fn base(&self, rt: &impl Print) {
+        line(rt, all_ackable_before(self.t));
+    }
+
+    // Received: number time. One irrelevant: number. Range: from until. Up to: smallest.
     pub(crate) fn call(&mut self, rt: &impl Print, code: ProxyCode, c: Args) {
         let changed = match code {
             ProxyCode::SetUp => return start(rt, self.t),
@@ -102,10 +120,10 @@ impl ProxyCalls<'_> {
             ProxyCode::Irrelevant => set_irrelevant_change(self.t, c.at(0)),
             ProxyCode::IrrelevantRange => irrelevant_changes_range(self.t, c.at(0), c.at(1)),
             ProxyCode::IrrelevantUpTo => irrelevant_changes_up_to(self.t, c.at(0)),
-            ProxyCode::IsIgnored => return line(rt, should_ignore_change(self.t, c.at(0))),
-            ProxyCode::Status => return told_status(rt, change_status(self.t, c.at(0))),
-            ProxyCode::Last => return told_last(rt, last_received(self.t)),
-            ProxyCode::Base => return line(rt, all_ackable_before(self.t)),
+            ProxyCode::IsIgnored => return self.ignored(rt, c),
+            ProxyCode::Status => return self.status(rt, c),
+            ProxyCode::Last => return self.last(rt),
+            ProxyCode::Base => return self.base(rt),
             ProxyCode::Missing => return self.missing(rt, c),
         };
         self.told_change(rt, changed);
