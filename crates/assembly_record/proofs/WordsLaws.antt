@@ -38,11 +38,11 @@ chunks_rows : (n : ℕ) (l : List ℕ) → map place_of (first_chunks row_size n
 chunks_rows zero l = refl
 chunks_rows (suc n) l = ap (λ (ps : List Place). place_of (take row_size l) ∷ ps) (chunks_rows n (drop row_size l))
 
-pub chunks_places : (w : List ℕ) (rs : List (List ℕ)) → length w ≡ assembler_size
-    → rs ≡ first_chunks row_size (length (take (length w - 3) (drop 3 w)) / row_size) (take (length w - 3) (drop 3 w)) → map place_of rs ≡ places_of w
+pub chunks_places : (w : List ℕ) (rs : List (List ℕ)) (m : ℕ) → m + 3 ≡ assembler_size → length w ≡ assembler_size
+    → rs ≡ first_chunks row_size (length (take m (drop 3 w)) / row_size) (take m (drop 3 w)) → map place_of rs ≡ places_of w
 unfolding places_of
-chunks_places w rs e h =
-    let all : take (length w - 3) (drop 3 w) ≡ drop 3 w = take_all (length w - 3) (drop 3 w) (omega (arith, length-drop 3 w)) in
+chunks_places w rs m s e h =
+    let all : take m (drop 3 w) ≡ drop 3 w = take_all m (drop 3 w) (omega (arith, length-drop 3 w)) in
     let n : length (drop 3 w) / row_size ≡ place_count = omega (arith, length-drop 3 w) in
     ap (map place_of) h
     ∙ ap (λ (l : List ℕ). map place_of (first_chunks row_size (length l / row_size) l)) all

@@ -4,15 +4,15 @@ ghost use Rattle.assembly_record.specs.Sizes.{place_count, assembler_size};
 ghost use Rattle.assembly_record.specs.Table.{found_place, highest_of, lowest_of, victim};
 ghost use Rattle.assembly_record.specs.Words.{place_of, places_of};
 
-use crate::layout::{MODE, NUMBER, PlaceRow, ROW, TABLE};
+use crate::layout::{ASSEMBLER_WORDS, MODE, NUMBER, PlaceRow, ROW, TABLE};
 
-// The rows of the places.
+// The rows of the places, cut by a length that is known before the call runs: it then divides nothing.
 pub fn rows(t: &[u64]) -> &[PlaceRow]
     requires { length t.now ≡ assembler_size }
     ensures long { length result.now ≡ place_count }
     ensures places { map place_of result.now ≡ places_of t.now }
 {
-    t[TABLE..].as_chunks::<ROW>().0
+    t[TABLE..ASSEMBLER_WORDS].as_chunks::<ROW>().0
 }
 
 // The lowest place that has the number n; the lowest free place for n = 0.
