@@ -1,9 +1,11 @@
 -- Laws of `specs/Frame.antt`: one for each answer of the code. Assumes nothing.
 use Prim.Native.Nat.{ℕ}
-use mathlib.Core.Path.{◌≡◌}
+use mathlib.Core.Path.{◌≡◌, refl}
 use mathlib.Core.Bool.{true, false}
 use mathlib.Core.List.{List}
-use Rattle.std.specs.Prelude.{Ok, Err}
+use Rattle.outcome.proofs.Split.{split}
+use lib.Dec.{eqb}
+use Rattle.std.specs.Prelude.{IfErr, Ok, Err}
 use lib.ListN.{length}
 use lib.IntN.{ℤ}
 use mir.Syntax.{w64}
@@ -32,6 +34,12 @@ module _ (kind a b : ℕ) (n m : ℤ) where
 pub frame_other : (kind a b : ℕ) → (kind ≡ 1 → ⊥) → (kind ≡ 2 → ⊥) → (kind ≡ 3 → ⊥) → Err EndsEarly ≡ frame_of kind a b
 unfolding frame_of
 frame_other kind a b i j k = rw (ne_eqb kind 1 i, ne_eqb kind 2 j, ne_eqb kind 3 k)
+
+-- what does not read is refused by the first row
+pub frame_row : (kind a b : ℕ) → IfErr (frame_of kind a b) (λ r. r ≡ EndsEarly)
+unfolding frame_of
+frame_row kind a b =
+    split (eqb kind 1) (λ t. rw t tt) (λ t. split (eqb kind 2) (λ u. rw (t, u) tt) (λ u. split (eqb kind 3) (λ v. rw (t, u, v) tt) (λ v. rw (t, u, v) refl)))
 
 module _ (line : List ℕ) where
   pub parsed_length : (length line ≡ 34 → ⊥) → refused 1 ≡ parsed line

@@ -112,13 +112,11 @@ pub(crate) fn answer(words: &mut [u64], line: &[u8], list: &mut [i64], out: &mut
     ensures line_answered { LineAnswered result words.new list.new out.old out.new (step_of (parsed line.now) (proxy_of words.old) list.old) }
     ensures good_proxy { GoodProxy words.new }
 {
-    match parse(line) {
-        Ok(frame) => answer_frame(words, frame, list, out),
-        Err(refusal) => {
-            let base = all_ackable_before(words);
-            put_short(out, MALFORMED, u64::from(refusal.number()), base)
-        }
-    }
+    let Ok(frame) = parse(line) else {
+        let base = all_ackable_before(words);
+        return put_short(out, MALFORMED, u64::from(Refusal::EndsEarly.number()), base);
+    };
+    answer_frame(words, frame, list, out)
 }
 
 // The answer to a line, without its line feed: how many bytes were written.

@@ -1,5 +1,6 @@
 // A line as a frame: a kind byte and two signed 8-byte big-endian numbers.
-ghost use Rattle.std.specs.Prelude.{◌≡◌};
+ghost use Rattle.std.specs.Prelude.{◌≡◌, IfErr};
+ghost use Rattle.outcome.specs.declared.Refusal.TheVariants.{EndsEarly};
 ghost use Rattle.outcome.specs.Refusal.{said};
 ghost use Rattle.replay_lines.specs.Frame.{parsed, frame_of};
 
@@ -48,7 +49,8 @@ fn frame_of(kind: u64, a: u64, b: u64) -> Result<Frame, Refusal>
 // The bytes of a line, without its line feed.
 #[tactic(auto, unfolding(crate::specs::Frame::parsed))]
 pub fn parse(line: &[u8]) -> Result<Frame, Refusal>
-    ensures { said result ≡ parsed line.now }
+    ensures reads { said result ≡ parsed line.now }
+    ensures row { IfErr result (λ refusal. refusal ≡ EndsEarly) }
 {
     if line.len() != DIGITS || !all_hex(line) {
         return Err(Refusal::EndsEarly);
