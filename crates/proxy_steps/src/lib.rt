@@ -1,7 +1,7 @@
 // The steps of the calls on a proxy, over numbers that a call takes: a number noted or tracked, the base moved on, the cap, a range.
 // The calls, which take any i64, are in crate `writer_proxy`.
-// A number is a plain u64, and `n < top` or `b ≤ top` stands in each contract: an own type for it would be unpacked at each step of the
-// arithmetic, and the two bounds differ.
+// A number is a plain u64, and `n < top` or `b ≤ top` stands in several contracts: an own type for it would be
+// unpacked at each step of the arithmetic, and the two bounds differ.
 #![tactic(auto)]
 
 pub mod base;

@@ -18,7 +18,7 @@ use outcome::Refusal;
 const PAYLOAD: usize = 7;
 
 // Set-up, answered with the digest of its words: f mode p, mode 1 reliable and 0 best effort. Returned: whether it was done.
-// No method: it serves words of any kind, and the record that they become is by the rules only if they were.
+// No method: it also serves words that are no record by the rules, so that what it keeps stands here, with its condition.
 fn start(rt: &impl Print, t: &mut [u64], f: u16, mode: bool, p: u32) -> bool
     ensures { GoodAssembler t.old → GoodAssembler t.new }
 {

@@ -51,7 +51,7 @@ fn answer(rt: &impl Print, proxy: &mut ProxyCalls, assembler: &mut AssemblerCall
     }
 }
 
-// All lines. A `while`: each line says where the next begins and lends the words read, and an `Iterator` may lend none of its own.
+// All lines. A `while`: each line says where the next begins and is read into the same words, which an `Iterator` could not lend out.
 fn answer_lines(
     rt: &impl Print,
     proxy: &mut ProxyCalls,

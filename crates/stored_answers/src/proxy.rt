@@ -18,7 +18,7 @@ use writer_proxy::received::received_changes_add;
 use writer_proxy::set_up::set_up;
 
 // What became of set-up, and the digest of its words.
-// No method: it serves words of any kind, and the record that they become is by the rules only if they were.
+// No method: it also serves words that are no record by the rules, so that what it keeps stands here, with its condition.
 fn start(rt: &impl Print, t: &mut [u64])
     ensures { GoodProxy t.old → GoodProxy t.new }
 {
