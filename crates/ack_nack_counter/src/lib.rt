@@ -52,7 +52,7 @@ pub fn next_ack_nack_count(count: &mut i32) -> i32
     n
 }
 
-// The caller's own counter record, moved on where it lies.
+// The caller's own counter record, moved on where it lies: C has the plain number, Rust the record.
 pub fn next_ack_nack(counter: &mut AckNackCounter) -> i32
     ensures { (result ≡ counter.old.count) × (counter.new ≡ (handed_out counter.old).counter) }
 {

@@ -1,4 +1,4 @@
-// The layout of the record: three words, then 129 rows of seven.
+// The layout of the record, as C keeps it: three words, then 129 rows of seven.
 pub const FRAGMENT_SIZE: usize = 0; // the fragment size f
 
 pub const PLACE_SIZE: usize = 1; // the place size p

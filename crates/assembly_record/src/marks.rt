@@ -1,4 +1,4 @@
-// The marks of a place: which of its fragments have come.
+// The marks of a place: which of its fragments have come. They are lent as the part of a row that they are, a slice of four words.
 ghost use Rattle.std.specs.Prelude.{◌≡◌, ◌+◌, ◌<◌, ◌≤◌, length};
 ghost use Rattle.assembly_record.specs.Sizes.{most_fragments, mark_words};
 ghost use Rattle.outcome.specs.Lent.{over};

@@ -23,6 +23,7 @@ pub fn seek(t: &[u64], n: u64) -> Option<usize>
     rows(t).iter().position(|row| row[NUMBER] == n)
 }
 
+// The highest and the lowest are a line each: one function for both would be passed `max` or `min`.
 fn highest(t: &[u64]) -> u64
     requires { length t.now ≡ assembler_size }
     ensures { result ≡ highest_of (places_of t.now) }

@@ -21,6 +21,7 @@ pub fn drucenal_assembler_set_up(
     number(fragment_assembler::set_up::set_up(words, fragment_size, reliable, place_size))
 }
 
+// What became of it as C has it: 0 kept, 1 returned, 2 dropped.
 pub fn drucenal_assembler_new_datafrag(
     words: &mut [u64],
     area: &mut [u8],

@@ -1,4 +1,4 @@
-// Decimal numbers at the front of a lent buffer: each function answers how many bytes it wrote.
+// Decimal numbers at the front of a lent buffer: each function answers how many bytes it wrote. Not by `write!`, which may answer an error by its contract.
 ghost use Rattle.std.specs.Prelude.{◌≡◌, map, ◌*◌, ◌≤◌, length};
 ghost use Rattle.outcome.specs.Lent.{over};
 ghost use Rattle.sequence_number.specs.Number.{nat_of};

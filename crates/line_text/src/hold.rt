@@ -15,7 +15,7 @@ pub fn hold(held: &mut [u8], count: usize, byte: u8) -> usize
     count
 }
 
-// Room for the bytes of a line, and how many are held; a count past the room holds them all.
+// Room for the bytes of a line, and how many are held; a count past the room holds them all. A line is not copied, so it derives no `Clone`.
 #[derive(Drop)]
 pub struct Held<const N: usize> {
     pub bytes: [u8; N],
@@ -41,7 +41,7 @@ impl<const N: usize> Held<N> {
     }
 }
 
-// The first count bytes, or all where there are no more.
+// The first count bytes, or all where there are no more: of any slice, so that it is no method of `Held`.
 pub fn front(bytes: &[u8], count: usize) -> &[u8]
     ensures { result.now ≡ take count bytes.now }
 {

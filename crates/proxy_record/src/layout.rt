@@ -1,4 +1,4 @@
-// The layout of the record: a head of four words, then three columns of 257 words, one more than are tracked after a call.
+// The layout of the record, as C keeps it: a head of four words, then three columns of 257 words, one more than are tracked after a call.
 pub const BASE: usize = 0; // the ack base
 
 pub const COUNT: usize = 1; // how many numbers are tracked

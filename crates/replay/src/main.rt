@@ -45,6 +45,7 @@ fn read(reader: &mut impl Read, input: &mut [u8; PIECE]) -> usize
     reader.read(input).unwrap_or(0)
 }
 
+// `GoodProxy` is a clause here: the words are a record only from set-up on.
 impl Replay {
     // What a read gave, the first so many bytes of the input, answered, all of it.
     fn take_piece(&mut self, rt: &impl Print, end: usize)
@@ -88,16 +89,21 @@ impl Replay {
     // All input, and a last line that lacks its line feed.
     fn take_all(&mut self, reader: &mut impl Read, rt: &impl Print)
         requires { GoodProxy self.old.words }
-        ensures { RanToEnd (lent self.old.words self.old.kept) (lent self.new.words self.new.kept) self.new.out }
+        ensures { RanToEnd (lent self.old.words self.old.kept) (feeding self.new.words self.new.kept.list self.new.kept.held.bytes 0) self.new.out }
     {
         self.take_input(reader, rt);
-        let wrote = close(&mut self.words, &mut self.kept, &mut self.out);
+        let wrote = close(
+            &mut self.words,
+            &mut self.kept.list,
+            &self.kept.held,
+            &mut self.out,
+        );
         write(rt, front(&self.out, wrote));
     }
 
     // The same from a fresh proxy on, and with nothing held of a line.
     fn run(&mut self, reader: &mut impl Read, rt: &impl Print)
-        ensures { RanToEnd (feeding (proxy_words fresh_proxy) self.old.kept.list self.old.kept.held.bytes 0) (lent self.new.words self.new.kept) self.new.out }
+        ensures { RanToEnd (feeding (proxy_words fresh_proxy) self.old.kept.list self.old.kept.held.bytes 0) (feeding self.new.words self.new.kept.list self.new.kept.held.bytes 0) self.new.out }
     {
         self.kept.held.count = 0;
         // These words are as many as a record has, so set-up takes them.

@@ -88,8 +88,8 @@ fn tell_missing(words: &[u64], start: i64, end: i64, list: &mut [i64], out: &mut
 }
 
 // A frame, done and told. The record, the list and the buffer are not one struct: it would hold three `&mut`, each with a clause for what it leaves.
-fn answer_frame(words: &mut [u64], frame: Frame, list: &mut [i64], out: &mut [u8]) -> usize
-    requires { GoodProxy words.old × (missing_room ≤ length list.old) × (answer_most ≤ length out.old) }
+fn answer_frame(words: &mut [u64], frame: Frame, list: &mut [i64; ROOM], out: &mut [u8]) -> usize
+    requires { GoodProxy words.old × (answer_most ≤ length out.old) }
     ensures line_answered { LineAnswered result words.new list.new out.old out.new (step_of (done frame) (proxy_of words.old) list.old) }
     ensures good_proxy { GoodProxy words.new }
 {
@@ -107,8 +107,13 @@ fn answer_frame(words: &mut [u64], frame: Frame, list: &mut [i64], out: &mut [u8
 }
 
 // A line, without its line feed, read, done and told.
-pub(crate) fn answer(words: &mut [u64], line: &[u8], list: &mut [i64], out: &mut [u8]) -> usize
-    requires { GoodProxy words.old × (missing_room ≤ length list.old) × (answer_most ≤ length out.old) }
+pub(crate) fn answer(
+    words: &mut [u64],
+    line: &[u8],
+    list: &mut [i64; ROOM],
+    out: &mut [u8],
+) -> usize
+    requires { GoodProxy words.old × (answer_most ≤ length out.old) }
     ensures line_answered { LineAnswered result words.new list.new out.old out.new (step_of (parsed line.now) (proxy_of words.old) list.old) }
     ensures good_proxy { GoodProxy words.new }
 {

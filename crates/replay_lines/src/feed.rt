@@ -2,7 +2,7 @@
 ghost use Rattle.std.specs.Prelude.{◌∷◌, [], ◌≤◌, length};
 ghost use Rattle.proxy_record.specs.Rules.{GoodProxy};
 ghost use Rattle.replay_lines.specs.Answer.{answer_most};
-ghost use Rattle.replay_lines.specs.Feed.{lent, lacking, FedWith, PieceFed};
+ghost use Rattle.replay_lines.specs.Feed.{feeding, lent, lacking, FedWith, PieceFed};
 ghost use Rattle.replay_lines.specs.Inner.{said_most};
 
 use crate::answer::{ANSWER, ROOM, answer};
@@ -17,7 +17,7 @@ pub const PIECE: usize = 2048;
 // 148 * (PIECE + HELD) + ANSWER: 35 bytes may ask for 5,148, so each for 148 at most, those held before among them, and room for one answer is always left.
 pub const SAID: usize = 313432;
 
-// What is kept from piece to piece beside the proxy's record: the list that missing numbers go to, and what is held of a line.
+// What is kept from piece to piece beside the proxy's record: the list that missing numbers go to, and what is held of a line. It is not copied.
 #[derive(Drop)]
 pub struct Kept {
     pub list: [i64; ROOM],
@@ -31,15 +31,13 @@ pub struct Fed {
     pub wrote: usize,
 }
 
-// The end of the line that is held: how many bytes were written.
-fn end_line(words: &mut [u64], kept: &mut Kept, out: &mut [u8]) -> usize
+// The end of the line that is held: how many bytes were written. None of it is held any more; the count is the caller's to set.
+fn end_line(words: &mut [u64], list: &mut [i64; ROOM], held: &Held<HELD>, out: &mut [u8]) -> usize
     requires { GoodProxy words.old × (answer_most ≤ length out.old) }
-    ensures fed_with { FedWith result (lent words.new kept.new) out.old out.new (10 ∷ []) (lent words.old kept.old) }
+    ensures fed_with { FedWith result (feeding words.new list.new held.now.bytes 0) out.old out.new (10 ∷ []) (feeding words.old list.old held.now.bytes held.now.count) }
     ensures good_proxy { GoodProxy words.new }
 {
-    let wrote = answer(words, kept.held.line(), &mut kept.list, out);
-    kept.held.count = 0;
-    wrote
+    answer(words, held.line(), list, out)
 }
 
 // One byte: a line feed ends the line that is held, any other is held or passed over.
@@ -49,7 +47,9 @@ fn take_byte(words: &mut [u64], kept: &mut Kept, byte: u8, out: &mut [u8]) -> us
     ensures good_proxy { GoodProxy words.new }
 {
     if byte == b'\n' {
-        return end_line(words, kept, out);
+        let wrote = end_line(words, &mut kept.list, &kept.held, out);
+        kept.held.count = 0;
+        return wrote;
     }
     kept.held.push(byte);
     0
@@ -82,14 +82,19 @@ pub fn feed(words: &mut [u64], kept: &mut Kept, piece: &[u8], out: &mut [u8; SAI
     }
 }
 
-// The end of the input: a last line that lacks its line feed is answered. How many bytes were written.
-pub fn close(words: &mut [u64], kept: &mut Kept, out: &mut [u8; SAID]) -> usize
+// The end of the input: a last line that lacks its line feed is answered. How many bytes were written; the bytes held stay, and none counts any more.
+pub fn close(
+    words: &mut [u64],
+    list: &mut [i64; ROOM],
+    held: &Held<HELD>,
+    out: &mut [u8; SAID],
+) -> usize
     requires { GoodProxy words.old }
-    ensures fed_with { FedWith result (lent words.new kept.new) out.old out.new (lacking (lent words.old kept.old)) (lent words.old kept.old) }
+    ensures fed_with { FedWith result (feeding words.new list.new held.now.bytes 0) out.old out.new (lacking (feeding words.old list.old held.now.bytes held.now.count)) (feeding words.old list.old held.now.bytes held.now.count) }
     ensures good_proxy { GoodProxy words.new }
 {
-    if kept.held.count == 0 {
+    if held.count == 0 {
         return 0;
     }
-    end_line(words, kept, out)
+    end_line(words, list, held, out)
 }

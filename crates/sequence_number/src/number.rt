@@ -12,9 +12,9 @@ pub fn number_of(n: i64) -> Option<u64>
     Some(n as u64)
 }
 
-// The number, or 0 for a negative one; `try_from(n).unwrap_or(0)` says no more.
+// The number, or 0 for a negative one.
 pub fn natural(n: i64) -> u64
     ensures { result ≡ nat_of n }
 {
-    if n < 0 { 0 } else { n as u64 }
+    u64::try_from(n).unwrap_or(0)
 }

@@ -17,7 +17,7 @@ pub fn read_word(o: ByteOrder, s: &[u8], at: usize) -> u32
     }
 }
 
-// A word to a place.
+// A word to a place, byte by byte: what `copy_from_slice` into a part leaves of the whole did not close.
 pub fn write_word(o: ByteOrder, v: u32, out: &mut [u8], at: usize)
     requires { at + 4 ≤ length out.old }
     ensures { out.new ≡ sets out.old at (word_bytes o v) }

@@ -1,4 +1,4 @@
-// A set's count and words on the wire, and its length: of either kind of number.
+// A set's count and words on the wire, and its length: of either kind of number. `count ≤ 256` is a clause, as in crate bitmap.
 #![tactic(auto)]
 
 ghost use Rattle.std.specs.Prelude.{◌≡◌, ◌+◌, ◌*◌, ◌≤◌, length};

@@ -38,7 +38,7 @@ fn fill_area(area: &mut [u8]) {
     }
 }
 
-// On other words: room f mode p.
+// On other words: room f mode p. Not one function with the proxy's: it lends other words to another call.
 fn start_fresh(rt: &impl Print, c: Args) {
     let mut lent = [90u64; 1000];
     match lent.get_mut(..c.at(0)) {

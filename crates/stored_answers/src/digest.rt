@@ -9,7 +9,7 @@ fn mix(digest: u64, value: u64) -> u64 {
     ((digest % MODULUS) * FACTOR + value % MODULUS) % MODULUS
 }
 
-// A byte is one value.
+// A byte is one value. (A line each: one function for both would be passed what mixes an element in.)
 pub(crate) fn bytes_digest(s: &[u8]) -> u64 {
     s.iter()
         .fold(1, |digest, byte| mix(digest, u64::from(*byte)))

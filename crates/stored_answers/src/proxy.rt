@@ -27,7 +27,7 @@ fn start(rt: &impl Print, t: &mut [u64])
     end(rt);
 }
 
-// On other words: room.
+// On other words: room. Not one function with the assembler's: it lends other words to another call.
 fn start_fresh(rt: &impl Print, c: Args) {
     let mut lent = [90u64; 1000];
     match lent.get_mut(..c.at(0)) {
