@@ -26,7 +26,7 @@ const EXPORTS: usize = 32;
 
 #[test]
 fn the_header_names_every_export() {
-    let sources = std::fs::read_dir(repository().join("crates/drucenal/src")).expect("the library's sources");
+    let sources = std::fs::read_dir(repository().join("crates/drucenal_c/src")).expect("the library's sources");
     let sources = sources.map(|file| text(file.expect("a file").path()));
     let exported: BTreeSet<String> = sources.flat_map(|source| calls(&source)).collect();
     let header = calls(&text(repository().join("include/drucenal.h")));
