@@ -7,7 +7,7 @@ ghost use Rattle.assembly_record.specs.Words.{assembler_of};
 ghost use Rattle.assembly_record.specs.Rules.{GoodAssembler};
 ghost use Rattle.drucenal.specs.AssemblerExports.{happened, SetsUpAssemblerOut, TakesFragmentOut, ViewsOut, CleansAssemblerOut, ListsFragmentsOut};
 
-use crate::numbers::{give, number};
+use crate::numbers::{give, refusal_number};
 use fragment_assembler::fragment::{Answer, DataFrag, new_datafrag};
 
 pub fn drucenal_assembler_set_up(
@@ -18,7 +18,7 @@ pub fn drucenal_assembler_set_up(
 ) -> u32
     ensures { SetsUpAssemblerOut words.old fragment_size reliable place_size result words.new }
 {
-    number(fragment_assembler::set_up::set_up(words, fragment_size, reliable, place_size))
+    refusal_number(fragment_assembler::set_up::set_up(words, fragment_size, reliable, place_size))
 }
 
 // What became of it as C has it: 0 kept, 1 returned, 2 dropped.

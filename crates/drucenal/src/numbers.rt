@@ -20,7 +20,7 @@ pub(crate) fn order_of(big: bool) -> ByteOrder
 }
 
 // A refusal's number, or 0.
-pub(crate) fn number<T: Drop>(found: Result<T, Refusal>) -> u32
+pub(crate) fn refusal_number<T: Drop>(found: Result<T, Refusal>) -> u32
     ensures { result ≡ refusal (said found) }
 {
     match found {
@@ -54,5 +54,5 @@ pub fn drucenal_read_number<N: Number>(big: bool, bytes: &[u8], number: &mut N) 
 pub fn drucenal_write_number<N: Number>(big: bool, n: N, out: &mut [u8]) -> u32
     ensures { Lends (write_number N.kind (length out.old)) (N.kind.number_bytes (order_of big) n) out.old result out.new }
 {
-    number(sequence_number::wire::write_number(order_of(big), n, out))
+    refusal_number(sequence_number::wire::write_number(order_of(big), n, out))
 }

@@ -12,7 +12,7 @@ ghost use Rattle.writer_proxy.specs.Missing.{missing_listed};
 ghost use Rattle.ack_nack_counter.specs.Counter.{next_count};
 ghost use Rattle.drucenal.specs.ProxyExports.{old_shown, new_shown, Replies, ListsMissing, status_number, status_time, last_number, last_time};
 
-use crate::numbers::{give, number};
+use crate::numbers::{give, refusal_number};
 use outcome::Refusal;
 use proxy_record::Mark;
 use proxy_steps::Forced;
@@ -21,7 +21,7 @@ pub fn drucenal_proxy_set_up(words: &mut [u64]) -> u32
     ensures value { (result ≡ refusal (set_up_proxy words.old).answer) × (words.new ≡ (set_up_proxy words.old).words) }
     ensures good_proxy { proxy_size ≤ length words.old → GoodProxy (take proxy_size words.new) }
 {
-    number(writer_proxy::set_up::set_up(words))
+    refusal_number(writer_proxy::set_up::set_up(words))
 }
 
 // What became of a call: its refusal, 0 where it has none, and the forced step behind the two references.
