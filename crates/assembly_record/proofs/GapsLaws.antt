@@ -4,7 +4,7 @@ use native.Mathlib.Omega.{arith}
 use native.Mathlib.Nat.{not-suc-le-zero}
 use native.Mathlib.Numerals.{add-one}
 use mathlib.Core.Path.{◌≡◌, sym, ap, subst, ◌∙◌}
-use mathlib.Core.Bool.{true, false, cond, not}
+use mathlib.Core.Bool.{true, false, cond}
 use mathlib.Core.Logic.{⊎_elim}
 use mathlib.Core.List.Memᴰ
 use mathlib.Core.List.{List, [], ◌∷◌, ◌++◌, append-nil, Memᴰ}
@@ -12,7 +12,6 @@ use lib.ListN.{length, get_or, set, length-append, get_or-append}
 use lib.Seq.{get_or-append_seam}
 use lib.Dec.{leb}
 use borrow.Author.Tests.{leb-true, leb-false}
-use Rattle.std.specs.List.{filter, range_with_len}
 use Rattle.outcome.specs.Lent.{over}
 use Rattle.outcome.proofs.LentLaws.{over_more}
 use Rattle.outcome.proofs.Split.{split, split_lt}
@@ -31,24 +30,13 @@ gaps_mono m i (suc n) h =
     (λ t. let ih = gaps_mono m i n (leb-true i n t) in omega (arith, ih, length-append (gaps m n) (cond (marked m n) [] (suc n ∷ []))))
     (λ t. let e : i ≡ suc n = (let l = leb-false i n t in omega arith) in rw e (omega arith))
 
--- the unmarked among k numbers from a on are the gaps there
-unmarked_from : (m : List ℕ) (a k : ℕ) → length (filter (λ (j : ℕ). not (marked m j)) (range_with_len a k)) + length (gaps m a) ≡ length (gaps m (a + k))
-unmarked_from m a zero =
-    let e : length (gaps m a) ≡ length (gaps m (a + 0)) = (let i : a ≡ a + 0 = omega arith in ap (λ (j : ℕ). length (gaps m j)) i) in
-    omega arith
-unmarked_from m a (suc k) =
-    let ih = unmarked_from m (a + 1) k in
-    let e : length (gaps m (a + 1 + k)) ≡ length (gaps m (a + suc k)) = (let i : a + 1 + k ≡ a + suc k = omega arith in ap (λ (j : ℕ). length (gaps m j)) i) in
-    let o : length (gaps m (a + 1)) ≡ length (gaps m (suc a)) = ap (λ (j : ℕ). length (gaps m j)) (add-one a) in
-    split (marked m a)
-    (λ t. let g = ap length (gaps_marked m a t) in rw t (omega arith))
-    (λ t. let g : length (gaps m (suc a)) ≡ length (gaps m a) + 1 = ap length (gaps_gap m a t) ∙ length-append (gaps m a) (suc a ∷ []) in rw t (omega arith))
+-- a mark more, counted
+module _ (m : List ℕ) (n k : ℕ) (e : k ≡ length (gaps m n)) where
+  pub gaps_count_gap : marked m n ≡ false → k + 1 ≡ length (gaps m (n + 1))
+  gaps_count_gap g = rw (add-one n, gaps_gap m n g) (omega (arith, e, length-append (gaps m n) (suc n ∷ [])))
 
-pub unmarked_count : (m : List ℕ) (n : ℕ) → length (filter (λ (j : ℕ). not (marked m j)) (range_with_len 0 n)) ≡ length (gaps m n)
-unmarked_count m n =
-    let e : 0 + n ≡ n = omega arith in
-    let k = unmarked_from m 0 n in
-    omega (arith, ap (λ (j : ℕ). length (gaps m j)) e)
+  pub gaps_count_marked : marked m n ≡ true → k ≡ length (gaps m (n + 1))
+  gaps_count_marked g = rw (add-one n, gaps_marked m n g) e
 
 -- a gap listed behind those before it
 pub gaps_more : (m : List ℕ) (n : ℕ) (d out : List ℕ) (k : ℕ) → k ≡ length (gaps m n) → out ≡ over (gaps m n) d → marked m n ≡ false → k < length d

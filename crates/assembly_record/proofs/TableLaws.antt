@@ -6,12 +6,15 @@ use mathlib.Core.Path.{◌≡◌, refl, sym, ap, subst, ◌∙◌}
 use mathlib.Core.Bool.{Bool, true, false, cond, ◌&&◌}
 use mathlib.Core.Logic.{◌⊎◌, inl, inr, ⊎_elim}
 use mathlib.Core.List.{List, [], ◌∷◌, map}
-use lib.ListN.{length, get_or, set, replicate, length-map}
+use lib.ListN.{length, get_or, set, take, drop, replicate}
+use lib.Seq.{take_all}
 use lib.Dec.{ltb, eqb}
-use borrow.Author.Tests.{ltb-true, ltb-false, eqb-true, eqb-false, lt-ltb, le-ltb, ne_eqb}
+use borrow.Author.Tests.{ltb-true, ltb-false, eqb-true, eqb-false, lt-ltb, le-ltb, eq-eqb, ne_eqb}
 use Rattle.std.specs.Prelude.{Some, None, IsSome, is_some, unwrap_or}
 use Rattle.std.proofs.lemmas.Option.{cond_some, none-some}
-use Rattle.std.specs.List.{position_or_len, fold, reduce, filter}
+use Rattle.std.specs.List.{position_or_len, fold, reduce, filter, count_by}
+use Rattle.std.proofs.lemmas.List.{drop_all}
+use Rattle.std.proofs.lemmas.List.Sums.{position_or_len_is, length-filter}
 use Rattle.assembly_record.specs.Words.{place_of}
 use Rattle.outcome.proofs.Split.{split, split_lt, clash}
 use Rattle.assembly_record.specs.State.{Place, place_at, free_place}
@@ -227,10 +230,11 @@ find_rows n (r ∷ rs) =
     let ih = find_rows n rs in
     split (eqb (row_number r) n) (λ e. rw e refl) (λ e. rw e (omega arith))
 
-pub found_rows : (n : ℕ) (rs : List (List ℕ)) → cond (ltb (position_or_len (λ (r : List ℕ). eqb (row_number r) n) rs) (length rs)) (Some (position_or_len (λ (r : List ℕ). eqb (row_number r) n) rs)) None
-    ≡ found_place n (map place_of rs)
-unfolding has_number
-found_rows n rs = rw (find_rows n rs, length-map rs place_of)
+-- the row at which a search from the front ends, past the last where none has the number
+pub first_row : (n i : ℕ) (rs : List (List ℕ)) → i ≤ length rs → ((j : ℕ) → j < i → row_number (get_or rs j []) ≡ n → ⊥) → (i < length rs → row_number (get_or rs i []) ≡ n)
+    → i ≡ find n (map place_of rs)
+first_row n i rs l before at =
+    sym (position_or_len_is (λ (r : List ℕ). eqb (row_number r) n) rs i [] l (λ k h. ne_eqb _ _ (before k h)) (λ h. eq-eqb _ _ (at h))) ∙ find_rows n rs
 
 fold_max : (a : ℕ) (rs : List (List ℕ)) → fold max a (map row_number rs) ≡ max a (highest_of (map place_of rs))
 fold_max a [] = omega arith
@@ -254,6 +258,21 @@ count_rows test [] = refl
 count_rows test (r ∷ rs) =
     let ih = count_rows test rs in
     split (test (place_of r)) (λ e. rw e (omega arith)) (λ e. rw e ih)
+
+-- all of them, counted in a loop: from the front up to i, or from the end down to i
+module _ (test : Place → Bool) (rs : List (List ℕ)) (i : ℕ) where
+  abbrev passes : List ℕ → Bool
+  passes r = test (place_of r)
+
+  pub counted_up : length rs ≤ i → count_by passes (take i rs) ≡ how_many test (map place_of rs)
+  counted_up l = ap (count_by passes) (take_all i rs l) ∙ sym (length-filter passes rs) ∙ count_rows test rs
+
+  pub counted_down : i ≡ 0 → count_by passes (drop i rs) ≡ how_many test (map place_of rs)
+  counted_down z = ap (λ (k : ℕ). count_by passes (drop k rs)) z ∙ sym (length-filter passes rs) ∙ count_rows test rs
+
+  -- none is counted yet
+  pub counted_none : length rs ≤ i → 0 ≡ count_by passes (drop i rs)
+  counted_none l = sym (ap (count_by passes) (drop_all i rs l))
 
 -- ---- the query
 

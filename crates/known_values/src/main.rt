@@ -11,6 +11,16 @@ use number_set::set::SequenceNumberSet;
 use outcome::Refusal;
 use sequence_number::ByteOrder;
 
+// Text and numbers are a write each: where the output takes no more, other bytes would be passed over.
+fn say(rt: &impl Print, text: &str) {
+    let _ = rt.write_all(text.as_bytes());
+}
+
+fn number(rt: &impl Print, n: impl Into<u64>) {
+    let n: u64 = n.into();
+    let _ = print!(rt; "{n}");
+}
+
 // A set of so many bits at the front of 44 bytes: 256 read, 257 are refused.
 fn count_of_bits(rt: &impl Print, low: u8) {
     let mut bytes = [0u8; 44];
@@ -18,27 +28,45 @@ fn count_of_bits(rt: &impl Print, low: u8) {
     bytes[10] = 1;
     bytes[11] = low;
     let read = SequenceNumberSet::read_from(ByteOrder::Big, &bytes);
-    let count = 256 + u16::from(low);
-    let _ = match read {
-        Ok(_) => println!(rt; "count {count}: reads"),
-        Err(refusal) => println!(rt; "count {count}: {refusal}"),
-    };
+    say(rt, "count ");
+    number(rt, 256 + u64::from(low));
+    match read {
+        Ok(_) => say(rt, ": reads\n"),
+        Err(refusal) => {
+            say(rt, ": refused ");
+            number(rt, refusal.number());
+            say(rt, "\n");
+        }
+    }
 }
 
 // What a fragment call answered.
 fn told(rt: &impl Print, reply: Result<Answer, Refusal>) {
-    let _ = match reply {
-        Err(refusal) => print!(rt; "{refusal}"),
-        Ok(Answer::Kept) => print!(rt; "kept"),
+    match reply {
+        Err(refusal) => {
+            say(rt, "refused ");
+            number(rt, refusal.number());
+        }
+        Ok(Answer::Kept) => say(rt, "kept"),
         Ok(
             Answer::Returned {
-                number,
+                number: n,
                 place,
                 length,
             },
-        ) => print!(rt; "returned {number} from place {place}, length {length}"),
-        Ok(Answer::Dropped(number)) => print!(rt; "dropped {number}"),
-    };
+        ) => {
+            say(rt, "returned ");
+            number(rt, n);
+            say(rt, " from place ");
+            number(rt, place as u64);
+            say(rt, ", length ");
+            number(rt, length);
+        }
+        Ok(Answer::Dropped(n)) => {
+            say(rt, "dropped ");
+            number(rt, n);
+        }
+    }
 }
 
 // Fragments of a sample of two, of four bytes each.
@@ -73,7 +101,7 @@ fn one_more(
 )
     requires { length t.old ≡ assembler_size }
 {
-    let _ = print!(rt; "{what}: ");
+    say(rt, what);
     let Ok(()) = fragment_assembler::set_up::set_up(t, 4, reliable, 8) else {
         return;
     };
@@ -82,16 +110,18 @@ fn one_more(
         rt,
         new_datafrag(t, area, 0, 129, frag(1, fragments, b"abcdefgh")),
     );
-    let open = fragment_assembler::query::in_assembly(t);
-    let _ = println!(rt; "; in assembly: {open}");
+    say(rt, "; in assembly: ");
+    number(rt, fragment_assembler::query::in_assembly(t) as u64);
+    say(rt, "\n");
 }
 
 // The bytes that the view shows.
 fn show(rt: &impl Print, bytes: &[u8]) {
     for byte in bytes {
-        let _ = print!(rt; " {byte:02x}");
+        say(rt, " ");
+        let _ = print!(rt; "{byte:02x}");
     }
-    let _ = println!(rt);
+    say(rt, "\n");
 }
 
 // A place that held a block is opened again, and its second fragment comes with no bytes: zeros, and nothing old.
@@ -102,11 +132,11 @@ fn reopened(rt: &impl Print, t: &mut [u64], area: &mut [u8])
         return;
     };
     let _ = new_datafrag(t, area, 0, 1, frag(1, 2, b"abcdefgh"));
-    let _ = print!(rt; "a block:");
+    say(rt, "a block:");
     show(rt, fragment_assembler::view::view(t, area, 0, 8));
     let _ = new_datafrag(t, area, 0, 2, frag(1, 1, b"wxyz"));
     let _ = new_datafrag(t, area, 0, 2, frag(2, 1, b""));
-    let _ = print!(rt; "its place reopened:");
+    say(rt, "its place reopened:");
     show(rt, fragment_assembler::view::view(t, area, 0, 8));
 }
 
@@ -117,12 +147,19 @@ fn missing_from_base(rt: &impl Print, t: &mut [u64], list: &mut [i64])
     let _ = writer_proxy::set_up::set_up(t);
     let _ = writer_proxy::received::received_changes_add(t, 1, 10);
     let _ = writer_proxy::received::received_changes_add(t, 3, 11);
-    let missing = writer_proxy::missing::missing_seqnums(t, 1, 4, list);
-    let base = writer_proxy::query::all_ackable_before(t);
-    let _ = match missing {
-        Err(refusal) => println!(rt; "{refusal}"),
-        Ok(n) => println!(rt; "missing of 1 to 4, base {base}: {n}"),
-    };
+    match writer_proxy::missing::missing_seqnums(t, 1, 4, list) {
+        Err(refusal) => {
+            say(rt, "refused ");
+            number(rt, refusal.number());
+        }
+        Ok(n) => {
+            say(rt, "missing of 1 to 4, base ");
+            number(rt, writer_proxy::query::all_ackable_before(t));
+            say(rt, ": ");
+            number(rt, n as u64);
+        }
+    }
+    say(rt, "\n");
 }
 
 fn main(rt: HostRuntime) {
@@ -132,7 +169,7 @@ fn main(rt: HostRuntime) {
     let mut area = [0u8; 1032];
     one_more(
         &rt,
-        "reliable, an unfinished 129th",
+        "reliable, an unfinished 129th: ",
         &mut record,
         &mut area,
         true,
@@ -140,7 +177,7 @@ fn main(rt: HostRuntime) {
     );
     one_more(
         &rt,
-        "best effort, an unfinished 129th",
+        "best effort, an unfinished 129th: ",
         &mut record,
         &mut area,
         false,
@@ -148,7 +185,7 @@ fn main(rt: HostRuntime) {
     );
     one_more(
         &rt,
-        "reliable, a whole 129th",
+        "reliable, a whole 129th: ",
         &mut record,
         &mut area,
         true,
@@ -156,7 +193,7 @@ fn main(rt: HostRuntime) {
     );
     one_more(
         &rt,
-        "best effort, a whole 129th",
+        "best effort, a whole 129th: ",
         &mut record,
         &mut area,
         false,

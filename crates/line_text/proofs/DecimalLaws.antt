@@ -4,7 +4,7 @@ use mathlib.Core.Path.{◌≡◌, refl, sym, ap, ◌∙◌}
 use mathlib.Core.List.{List, [], ◌∷◌, ◌++◌, map, append-nil, append_assoc, map-append}
 use native.Mathlib.Omega.{arith}
 use native.Mathlib.Numerals.{add-one}
-use lib.ListN.{length, take, drop, get_or, length-append, length-drop, drop_of_length-le}
+use lib.ListN.{length, take, drop, set, get_or, length-append, length-drop, drop_of_length-le}
 use lib.IntN.{ℤ, pos}
 use lib.Signed.{mag}
 use mir.Syntax.{w64}
@@ -43,6 +43,9 @@ unfolding digits digits_within
 digits_more zero h = absurd (omega arith)
 digits_more (suc n) h = rw (le-ltb (suc n) 10 h) (ap (λ (l : List ℕ). l ++ ((48 + suc n % 10) ∷ [])) (within_same n (suc n / 10) (suc n / 10) (omega arith) (omega arith)))
 
+digits_two : (n : ℕ) → 10 ≤ n → n < 100 → digits n ≡ (48 + n / 10) ∷ (48 + n % 10) ∷ []
+digits_two n h f = digits_more n h ∙ ap (λ (l : List ℕ). l ++ ((48 + n % 10) ∷ [])) (digits_one (n / 10) (omega arith))
+
 pub length_more : (n : ℕ) → 10 ≤ n → length (digits n) ≡ length (digits (n / 10)) + 1
 length_more n h = ap length (digits_more n h) ∙ length-append (digits (n / 10)) ((48 + n % 10) ∷ [])
 
@@ -57,10 +60,31 @@ length_most (suc k) n h =
     (λ e. omega (arith, length_one n (ltb-true n 10 e)))
     (λ e. omega (arith, length_more n (ltb-false n 10 e), length_most k (n / 10) (omega arith)))
 
+-- one digit or two, written one by one
+over_one : (a : ℕ) (out : List ℕ) → 1 ≤ length out → set out 0 a ≡ over (a ∷ []) out
+over_one a [] h = absurd (omega arith)
+over_one a (x ∷ out) h = refl
+
+over_two : (a b : ℕ) (out : List ℕ) → 2 ≤ length out → set (set out 0 a) 1 b ≡ over (a ∷ b ∷ []) out
+over_two a b [] h = absurd (omega arith)
+over_two a b (x ∷ []) h = absurd (omega arith)
+over_two a b (x ∷ y ∷ out) h = refl
+
+module _ (out : List ℕ) (n : ℕ) (enough : length (digits n) ≤ length out) where
+  pub one_put : (a : ℕ) → a ≡ 48 + n → n < 10 → (set out 0 a ≡ over (digits n) out) × (1 ≡ length (digits n))
+  one_put a e h = rw e (rw (digits_one n h) (over_one (48 + n) out (omega (arith, length_one n h)), refl))
+
+  pub two_put : (a b : ℕ) → a ≡ 48 + n / 10 → b ≡ 48 + n % 10 → 10 ≤ n → n < 100 → (set (set out 0 a) 1 b ≡ over (digits n) out) × (2 ≡ length (digits n))
+  two_put a b d e h f =
+      rw d (rw e (rw (digits_two n h f) (over_two (48 + n / 10) (48 + n % 10) out (omega (arith, ap length (digits_two n h f))), refl)))
+
 -- the library prints the same digits
 pub decimal_digits : (n : ℕ) → n < 2 ^ 64 → decimal n ≡ digits n
 decimal_digits n h =
     decimal_by_steps (λ n ds. ds ≡ digits n) (λ n h. sym (digits_one n h)) (λ n ds h e. ap (λ (l : List ℕ). l ++ ((48 + n % 10) ∷ [])) e ∙ sym (digits_more n h)) n h
+
+pub printed : (text : List ℕ) (m n : ℕ) → text ≡ decimal m → m ≡ n → n < 2 ^ 64 → text ≡ digits n
+printed text m n t e h = t ∙ ap decimal e ∙ decimal_digits n h
 
 -- a text after a text, over a lent buffer
 pub over_after : (a b out mid : List ℕ) (k : ℕ) → k ≡ length a → mid ≡ over a out → take k mid ++ over b (drop k mid) ≡ over (a ++ b) out

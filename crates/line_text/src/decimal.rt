@@ -1,5 +1,5 @@
 // Decimal numbers at the front of a lent buffer: each function answers how many bytes it wrote. Not by `write!`, which may answer an error by its contract.
-ghost use Rattle.std.specs.Prelude.{◌≡◌, map, ◌*◌, ◌≤◌, length};
+ghost use Rattle.std.specs.Prelude.{◌≡◌, map, ◌*◌, ◌<◌, ◌≤◌, length};
 ghost use Rattle.outcome.specs.Lent.{over};
 ghost use Rattle.sequence_number.specs.Number.{nat_of};
 ghost use Rattle.line_text.specs.Decimal.{digits, spaced_number, spaced};
@@ -7,8 +7,25 @@ ghost use Rattle.line_text.specs.Decimal.{digits, spaced_number, spaced};
 use itoa::Buffer;
 use sequence_number::number::natural;
 
-// The digits of n.
-pub fn put_number(out: &mut [u8], n: u64) -> usize
+// The digits of a number that has one or two, without the library, which clears 40 bytes and copies out of them however few the digits are:
+// a number of one digit took 6 ns more by it, one of two digits a sixth more. From three digits on it is the faster.
+fn put_few(out: &mut [u8], n: u64) -> usize
+    requires { (n < 100) × (length (digits n) ≤ length out.old) }
+    ensures { (out.new ≡ over (digits n) out.old) × (result ≡ length (digits n)) }
+{
+    if n < 10 {
+        out[0] = b'0' + n as u8;
+        return 1;
+    }
+    out[0] = b'0' + (n / 10) as u8;
+    out[1] = b'0' + (n % 10) as u8;
+    2
+}
+
+// The digits of n by the library. It is called and not inlined, so that a number of one digit or two sets up no frame for the 40 bytes: 7
+// instructions in place of 14.
+#[inline(never)]
+fn put_many(out: &mut [u8], n: u64) -> usize
     requires { length (digits n) ≤ length out.old }
     ensures { (out.new ≡ over (digits n) out.old) × (result ≡ length (digits n)) }
 {
@@ -16,6 +33,17 @@ pub fn put_number(out: &mut [u8], n: u64) -> usize
     let text = buffer.format(n).as_bytes();
     out[..text.len()].copy_from_slice(text);
     text.len()
+}
+
+// The digits of n.
+pub fn put_number(out: &mut [u8], n: u64) -> usize
+    requires { length (digits n) ≤ length out.old }
+    ensures { (out.new ≡ over (digits n) out.old) × (result ≡ length (digits n)) }
+{
+    if n < 100 {
+        return put_few(out, n);
+    }
+    put_many(out, n)
 }
 
 // A space and the digits of n.

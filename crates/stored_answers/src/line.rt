@@ -10,7 +10,9 @@ pub(crate) struct Line<'a> {
 }
 
 // What a digit stands for.
-fn digit(c: u8) -> Option<u64> {
+fn digit(c: u8) -> Option<u64>
+    ensures { IfSome result (λ d. d < 16) }
+{
     match c {
         b'0'..=b'9' => Some(u64::from(c - b'0')),
         b'a'..=b'f' => Some(u64::from(c - b'a') + 10),

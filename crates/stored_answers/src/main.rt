@@ -43,8 +43,8 @@ fn answer(rt: &impl Print, proxy: &mut ProxyCalls, assembler: &mut AssemblerCall
     };
     let c = Args { words };
     match code {
-        Code::Sequence(code) => sets::call(rt, code, c, &mut [90i64; 300]),
-        Code::Fragment(code) => sets::call(rt, code, c, &mut [90u32; 300]),
+        Code::Sequence(code) => sets::call::<i64>(rt, code, c),
+        Code::Fragment(code) => sets::call::<u32>(rt, code, c),
         Code::Assembler(code) => assembler.call(rt, code, c),
         Code::Proxy(code) => proxy.call(rt, code, c),
         Code::Counter => counter::call(rt, c.at(0)),

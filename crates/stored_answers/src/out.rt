@@ -8,10 +8,10 @@ pub(crate) fn first<W: Word>(rt: &impl Print, value: W) {
     let _ = print!(rt; "{word:x}");
 }
 
-// A word after the first.
+// A word after the first. The space is a write of its own: where the output takes no more, other bytes would be passed over.
 pub(crate) fn next<W: Word>(rt: &impl Print, value: W) {
-    let word = value.word();
-    let _ = print!(rt; " {word:x}");
+    let _ = rt.write_all(b" ");
+    first(rt, value);
 }
 
 pub(crate) fn end(rt: &impl Print) {

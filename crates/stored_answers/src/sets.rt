@@ -106,15 +106,44 @@ fn measure<N: Number + Word>(rt: &impl Print, c: Args) {
     end(rt);
 }
 
-// The numbers lent are 90 each to list, and any to make a set of; the bytes are 90 each to write, and any to read from.
-pub(crate) fn call<N: Number + Word>(rt: &impl Print, code: SetCode, c: Args, lent: &mut [N]) {
+// A kind of number, and its calls on lent numbers: 90 each to list, any to make a set of.
+// Each kind makes the array itself, since one of a type parameter has no known size; and these two calls alone have it: as an argument of every
+// call it was filled for each line, even for one that is no call, and 400,000 of these took 1,065 million instructions where they take 59.
+pub(crate) trait SetKind: Number + Word {
+    fn walk(rt: &impl Print, c: Args);
+
+    fn make(rt: &impl Print, c: Args);
+}
+
+impl SetKind for i64 {
+    fn walk(rt: &impl Print, c: Args) {
+        walk(rt, c, &mut [90i64; 300]);
+    }
+
+    fn make(rt: &impl Print, c: Args) {
+        make(rt, c, &mut [90i64; 300]);
+    }
+}
+
+impl SetKind for u32 {
+    fn walk(rt: &impl Print, c: Args) {
+        walk(rt, c, &mut [90u32; 300]);
+    }
+
+    fn make(rt: &impl Print, c: Args) {
+        make(rt, c, &mut [90u32; 300]);
+    }
+}
+
+// The bytes lent are 90 each to write, and any to read from.
+pub(crate) fn call<N: SetKind>(rt: &impl Print, code: SetCode, c: Args) {
     match code {
         SetCode::WriteNumber => write_one::<N>(rt, c, &mut [90u8; 64]),
         SetCode::WriteSet => write_set::<N>(rt, c, &mut [90u8; 64]),
         SetCode::ReadNumber => read_one::<N>(rt, c, &mut [90u8; 64]),
         SetCode::ReadSet => read_set::<N>(rt, c, &mut [90u8; 64]),
-        SetCode::WalkSet => walk(rt, c, lent),
+        SetCode::WalkSet => N::walk(rt, c),
         SetCode::MeasureSet => measure::<N>(rt, c),
-        SetCode::MakeSet => make(rt, c, lent),
+        SetCode::MakeSet => N::make(rt, c),
     }
 }

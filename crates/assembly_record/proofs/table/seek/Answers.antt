@@ -1,16 +1,14 @@
--- `assembly_record::table::seek` meets its contract: the first row with the number. Assumes nothing.
-use mathlib.Core.Path.{ap, ◌∙◌}
-use lib.Dec.{eqb}
-use borrow.Author.Rules.{rules}
-use borrow.Author.Tests.{tests}
-use Rattle.std.proofs.lemmas.Iterator.{YieldsList-from_slice}
-use Rattle.std.proofs.lemmas.Iterator.Search.{position_from_yields_List}
-use Rattle.assembly_record.proofs.TableLaws.{found_rows, row_number}
-use Rattle.assembly_record.specs.Table.{found_place}
+-- `assembly_record::table::seek` meets its contract: what is found below 129 is a place. Assumes nothing.
+use mathlib.Core.Path.{refl, sym, ◌∙◌}
+use lib.Dec.{ltb}
+use Rattle.outcome.proofs.Split.{split}
+use Rattle.assembly_record.specs.Sizes.{place_count}
+use Rattle.assembly_record.proofs.WordsLaws.{length_places}
+use Rattle.assembly_record.specs.Table.{has_number}
 use Rattle.assembly_record.proofs.table.seek.Goals as goal
 
 pub returns : goal.returns
+unfolding has_number
 returns c =
-    position_from_yields_List (λ r. eqb (row_number r) c.args.n) _ _ c.position.result c.position.ensures.ran (YieldsList-from_slice c.rows.result.now cc) (λ x b q k. search (rules, tests))
-    ∙ found_rows c.args.n c.rows.result.now
-    ∙ ap (found_place c.args.n) c.rows.ensures.places
+    rw (sym c.first-at.ensures, length_places c.args.t.now)
+    (c.then_some.ensures ∙ split (ltb c.first-at.result place_count) (λ e. rw e refl) (λ e. rw e refl))

@@ -7,5 +7,5 @@ loop-byte-init c = going_first _ _ _ c.requires.1 c.requires.0 c.args.kept.now.h
 pub loop-byte-preserved : goal.loop-byte-preserved
 loop-byte-preserved c =
     let l = c.loop-byte in
-    let f = c.take_byte-wrote in
-    (going_on _ c.args.piece.now c.args.out.now c.requires.1 l.byte-index _ l.wrote l.out l.invariant c.loop-byte-test.true l.auto.out f.result _ f.new.out f.auto.out f.ensures.good_proxy f.ensures.fed_with).1
+    let f = c.take_byte-step in
+    (going_on _ c.args.piece.now c.args.out.now c.requires.1 l.byte-index _ l.wrote l.out l.invariant c.loop-byte-test.true l.auto.out f.result.wrote _ f.new.out f.auto.out f.ensures.good_proxy f.ensures.fed_with).1

@@ -1,12 +1,12 @@
--- `line_text::decimal::put_number` meets its contract: the library's digits are those of `digits`. Assumes nothing.
+-- `line_text::decimal::put_many` meets its contract: the library's digits are those of `digits`. Assumes nothing.
 use Rattle.std.proofs.Common.{◌≡◌, ◌≤◌, arith, ◌++◌, length, drop, ap, ◌∙◌, length-take-le}
 use Rattle.line_text.specs.Decimal.{digits}
-use Rattle.line_text.proofs.DecimalLaws.{decimal_digits}
-use Rattle.line_text.proofs.decimal.put_number.Goals as goal
-use Rattle.line_text.proofs.decimal.put_number.Goals.{After-as_bytes-text}
+use Rattle.line_text.proofs.DecimalLaws.{printed}
+use Rattle.line_text.proofs.decimal.put_many.Goals as goal
+use Rattle.line_text.proofs.decimal.put_many.Goals.{After-as_bytes-text}
 
 text_is : (c : After-as_bytes-text) → c.as_bytes-text.result.now ≡ digits c.args.n
-text_is c = c.as_bytes-text.ensures.value ∙ c.format.ensures.text ∙ decimal_digits c.args.n (omega arith)
+text_is c = c.as_bytes-text.ensures.value ∙ printed _ _ c.args.n c.format.ensures.text (omega arith) (omega arith)
 
 fits : (c : After-as_bytes-text) → length c.as_bytes-text.result.now ≤ length c.args.out.now
 fits c = omega (arith, ap length (text_is c))
